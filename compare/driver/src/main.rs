@@ -1,0 +1,89 @@
+//! Compares our functions with the Rust's by running both. compare/run builds and starts it.
+//!
+//!   --quick   the first 1024th of every row
+//!   --wrong   functions that are wrong on purpose, in the place of ours
+//!
+//! Exit status 0: no answer differs; with --wrong: each wrong function was noticed.
+
+mod compare;
+mod inputs;
+mod ours;
+mod table;
+mod wrong;
+
+use std::process::ExitCode;
+
+use compare::{Row, Tally};
+
+fn main() -> ExitCode {
+    let (mut quick, mut wrong) = (false, false);
+    for word in std::env::args().skip(1) {
+        match word.as_str() {
+            "--quick" => quick = true,
+            "--wrong" => wrong = true,
+            _ => {
+                eprintln!("compare: unknown word {word}");
+                return ExitCode::from(2);
+            }
+        }
+    }
+    let good = if wrong {
+        notice_all(&wrong::wrong_table(), quick)
+    } else {
+        compare_all(&table::table(), quick)
+    };
+    if good {
+        ExitCode::SUCCESS
+    } else {
+        ExitCode::FAILURE
+    }
+}
+
+/// Compares every row, and says whether no answer differs.
+fn compare_all(rows: &[Row], quick: bool) -> bool {
+    let (mut compared, mut differ) = (0, 0);
+    for row in rows {
+        let tally = row.run(cases(row, quick), false);
+        show(row, &tally);
+        compared += tally.compared;
+        differ += tally.differ;
+    }
+    println!("{compared} answers compared, {differ} differ");
+    differ == 0
+}
+
+/// Compares every row of wrong functions till it differs, and says whether all do.
+fn notice_all(rows: &[Row], quick: bool) -> bool {
+    let mut noticed = 0;
+    for row in rows {
+        let tally = row.run(cases(row, quick), true);
+        show(row, &tally);
+        noticed += usize::from(0 < tally.differ);
+    }
+    println!("{} wrong functions, {noticed} noticed", rows.len());
+    noticed == rows.len()
+}
+
+/// How many cases of a row are run.
+fn cases(row: &Row, quick: bool) -> u64 {
+    if quick {
+        row.cases / 1024
+    } else {
+        row.cases
+    }
+}
+
+fn show(row: &Row, tally: &Tally) {
+    let count = if tally.compared == row.cases {
+        format!("{}", row.cases)
+    } else {
+        format!("the first {} of {}", tally.compared, row.cases)
+    };
+    println!(
+        "{}: {count}, {}: {} differ",
+        row.name, row.kinds, tally.differ
+    );
+    for (_, text) in &tally.first {
+        println!("    {text}");
+    }
+}

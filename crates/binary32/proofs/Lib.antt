@@ -1,0 +1,10 @@
+pub mod Tests
+pub mod Magnitude
+pub mod Order
+pub mod RoundedSize
+pub mod Rounded
+pub mod Integers
+pub mod Operations
+pub mod Products
+pub mod Exact
+pub mod Absolute

@@ -1,0 +1,150 @@
+-- The size of a number in units of its format's smallest value: it is exact for every number that the format holds, it lies under the overflow
+-- bound where the number is finite, and a sign and a size belong to one number alone. Assumes nothing.
+use mathlib.Core.Path.{_≡_, refl, sym, ap, _∙_, subst, subst₂, ap₂}
+use mathlib.Core.Logic.{inl, inr}
+use Prim.Native.Nat.{ℕ, zero, suc, _+_, _-_, _*_, _/_, _%_, _^_, _≤_, _<_}
+use native.Mathlib.Nat.{mul-one, one-mul, mul-assoc, mul-comm, mul-right-comm, mul-left-comm, div-one, mul-div-cancel, zero-mul, lt-of-mul-lt-mul-right, mul-lt-mul-of-pos-right, zero-div, lt-of-not-le, not-le-of-lt, lt-irrefl, le-of-suc-le-suc}
+use native.Mathlib.Omega.{arith}
+use mathlib.Core.Bool.{Bool, true, false, not, _&&_, cond}
+use lib.Dec.{T, leb→le, ltb→lt, eqb→eq, leb, ltb, eqb}
+use lib.Pow.{pow-add, pow-pos, pow-lt}
+use lib.IntN.{ℤ, pos, negsuc}
+use lib.Ieee.{Float, nan, inf, fin, Format, prec, emax, low, up, down, size, hid, top, fits, isNan, toBits, ofBits}
+use lib.Ieee.Bits.{ofBits-toBits}
+use lib.Ieee.Digits.{back}
+use lib.Ieee.Exact.{HasValue}
+use lib.Ieee.Fits.{and-l, and-r, down-pos}
+use lib.Ieee.Scale.{overflow, finite}
+use Rattle.binary32.specs.Whole.{negative, magnitude}
+
+-- ---- what is asked of a number: the format holds it, and it is no NaN, or finite
+
+pub record Number (f : Format) (x : Float) : Type 0 where
+  pub fits : T (fits f x)
+  pub number : T (not (isNan x))
+
+pub record Finite (f : Format) (x : Float) : Type 0 where
+  pub fits : T (fits f x)
+  pub finite : T (finite x)
+
+pub finite-number : {f : Format} {x : Float} → Finite f x → Number f x
+unfolding isNan
+finite-number {f} {x} h = record { fits = h .fits; number = no-nan x (h .finite) }
+  where
+    no-nan : (x : Float) → T (finite x) → T (not (isNan x))
+    no-nan nan t = t
+    no-nan (inf s) t = absurd t
+    no-nan (fin s m e) t = tt
+
+-- ---- what it takes to be held: the parts of `fits`
+
+pub record Held (f : Format) (m : ℕ) (e : ℤ) : Type 0 where
+  pub digits : m < 2 ^ prec f
+  pub fine : down e ≤ 2 ^ low f
+  pub bounded : m * up e < 2 ^ suc (emax f) * down e
+
+no-fraction : (k : ℕ) → 1 * 2 ^ suc k ≡ 1 → ⊥
+no-fraction k e = let h : 2 ^ 0 < 2 ^ suc k = pow-lt {i = 0} (omega arith) in omega (arith, e, h, one-mul (2 ^ suc k))
+
+zero-held : (f : Format) (e : ℤ) → up e * down e ≡ 1 → Held f 0 e
+zero-held f (pos k) h =
+    record { digits = pow-pos (prec f); fine = pow-pos (low f); bounded = simp (zero-mul, mul-one) (pow-pos (suc (emax f))) }
+zero-held f (negsuc k) h = absurd (no-fraction k h)
+
+pub held : (f : Format) (s : Bool) (m : ℕ) (e : ℤ) → T (fits f (fin s m e)) → Held f m e
+unfolding fits
+held f s zero e h = zero-held f e (eqb→eq (up e * down e) 1 h)
+held f s (suc m) e h =
+    let odd = eqb (suc m % 2) 1 in
+    let few = ltb (suc m) (2 ^ prec f) in
+    let fine = leb (down e) (2 ^ low f) in
+    let bounded = ltb (suc m * up e) (2 ^ suc (emax f) * down e) in
+    let front = and-l (odd && few && fine) bounded h in
+    record {
+      digits = ltb→lt (suc m) (2 ^ prec f) (and-r odd few (and-l (odd && few) fine front));
+      fine = leb→le (down e) (2 ^ low f) (and-r (odd && few) fine front);
+      bounded = ltb→lt (suc m * up e) (2 ^ suc (emax f) * down e) (and-r (odd && few && fine) bounded h);
+    }
+
+-- ---- the size is exact
+
+-- Where the exponent is not under the format's least, the smallest value divides the number: it counts a whole number of times, m * 2 ^ j.
+pub record Multiple (f : Format) (m : ℕ) (e : ℤ) : Type 0 where
+  pub shift : ℕ
+  pub exact : m * up e * 2 ^ low f ≡ m * 2 ^ shift * down e
+
+pub multiple : (f : Format) (m : ℕ) (e : ℤ) → down e ≤ 2 ^ low f → Multiple f m e
+multiple f m (pos k) h = record { shift = k + low f; exact = simp (pow-add, mul-assoc, mul-one) }
+multiple f m (negsuc k) h =
+    let short : suc k ≤ low f = le-of-suc-le-suc (lt-of-not-le (λ (g : suc (low f) ≤ suc k). not-le-of-lt (pow-lt g) h)) in
+    let split : 2 ^ low f ≡ 2 ^ (low f - suc k) * 2 ^ suc k = ap (λ (j : ℕ). 2 ^ j) (sym (back (low f) (suc k) short)) ∙ pow-add 2 (low f - suc k) (suc k) in
+    record { shift = low f - suc k; exact = ap (λ (x : ℕ). m * 1 * x) split ∙ simp (mul-one, mul-assoc) }
+
+-- a number of the value a / 2 ^ low has the size a
+pub magnitude-of : (f : Format) (x : Float) (s : Bool) (a : ℕ) → HasValue x s a (2 ^ low f) → magnitude f x ≡ a
+unfolding magnitude
+magnitude-of f nan s a h = absurd h
+magnitude-of f (inf t) s a h = absurd h
+magnitude-of f (fin t m e) s a h = ap (λ (x : ℕ). x / down e) (h .1) ∙ mul-div-cancel a (down-pos e)
+
+-- the size of a number that the format holds is its significand, shifted
+pub magnitude-shifted : (f : Format) (s : Bool) (m : ℕ) (e : ℤ) → (k : Multiple f m e) → magnitude f (fin s m e) ≡ m * 2 ^ k .shift
+unfolding magnitude
+magnitude-shifted f s m e k = ap (λ (x : ℕ). x / down e) (k .exact) ∙ mul-div-cancel (m * 2 ^ k .shift) (down-pos e)
+
+pub magnitude-exact : (f : Format) (s : Bool) (m : ℕ) (e : ℤ) → T (fits f (fin s m e)) → magnitude f (fin s m e) * down e ≡ m * up e * 2 ^ low f
+magnitude-exact f s m e h =
+    let k = multiple f m e (held f s m e h .fine) in
+    ap (λ (x : ℕ). x * down e) (magnitude-shifted f s m e k) ∙ sym (k .exact)
+
+-- the same with a further factor on both sides, as the operations have it
+pub magnitude-scaled : (f : Format) (s : Bool) (m : ℕ) (e : ℤ) → T (fits f (fin s m e)) → (k : ℕ) → m * up e * k * 2 ^ low f ≡ magnitude f (fin s m e) * (down e * k)
+magnitude-scaled f s m e h k =
+    mul-right-comm (m * up e) k (2 ^ low f) ∙ ap (λ (a : ℕ). a * k) (sym (magnitude-exact f s m e h)) ∙ mul-assoc (magnitude f (fin s m e)) (down e) k
+
+pub magnitude-zero : (f : Format) (s : Bool) (e : ℤ) → magnitude f (fin s 0 e) ≡ 0
+unfolding magnitude
+magnitude-zero f s e = simp (zero-mul, zero-div)
+
+-- ---- a finite number lies under the overflow bound
+
+pub magnitude-under : (f : Format) (x : Float) → T (fits f x) → T (finite x) → magnitude f x < overflow f
+magnitude-under f nan h t = absurd t
+magnitude-under f (inf s) h t = absurd t
+magnitude-under f (fin s m e) h t =
+    lt-of-mul-lt-mul-right (down e)
+    (subst₂ (λ (a b : ℕ). a < b) (sym (magnitude-exact f s m e h)) (simp (pow-add, mul-assoc, mul-comm, mul-left-comm)) (mul-lt-mul-of-pos-right (held f s m e h .bounded) (pow-pos (low f))))
+
+pub finite-under : {f : Format} {x : Float} → Finite f x → magnitude f x < overflow f
+finite-under {f} {x} h = magnitude-under f x (h .fits) (h .finite)
+
+-- ---- a sign and a size belong to one number: the bit pattern is made of these two
+
+bits-of : (f : Format) (s : Bool) (n : ℕ) → ℕ
+bits-of f s n = cond s (top f) 0 + (size n - prec f) * hid f + n / 2 ^ (size n - prec f)
+
+bits-are : (f : Format) (x : Float) → T (finite x) → toBits f x ≡ bits-of f (negative x) (magnitude f x)
+unfolding bits-of toBits negative magnitude
+bits-are f nan t = absurd t
+bits-are f (inf s) t = absurd t
+bits-are f (fin s m e) t = refl
+
+same-finite : (f : Format) (x y : Float) → T (fits f x) → T (fits f y) → T (finite x) → T (finite y)
+    → negative x ≡ negative y → magnitude f x ≡ magnitude f y → x ≡ y
+same-finite f x y hx hy tx ty s n =
+    sym (ofBits-toBits f x hx)
+    ∙ ap (ofBits f) (bits-are f x tx ∙ ap₂ (bits-of f) s n ∙ sym (bits-are f y ty))
+    ∙ ofBits-toBits f y hy
+
+an-infinity-is-larger : {f : Format} {x : Float} → Finite f x → overflow f ≡ magnitude f x → ⊥
+an-infinity-is-larger {f} {x} h e = lt-irrefl (overflow f) (subst (λ (n : ℕ). n < overflow f) (sym e) (finite-under h))
+
+pub same-number : (f : Format) (x y : Float) → Number f x → Number f y → negative x ≡ negative y → magnitude f x ≡ magnitude f y → x ≡ y
+unfolding isNan negative magnitude
+same-number f nan y hx hy s n = absurd (hx .number)
+same-number f (inf a) nan hx hy s n = absurd (hy .number)
+same-number f (inf a) (inf b) hx hy s n = ap inf s
+same-number f (inf a) (fin b k e) hx hy s n = absurd (an-infinity-is-larger (record { fits = hy .fits; finite = tt }) n)
+same-number f (fin a m d) nan hx hy s n = absurd (hy .number)
+same-number f (fin a m d) (inf b) hx hy s n = absurd (an-infinity-is-larger (record { fits = hx .fits; finite = tt }) (sym n))
+same-number f (fin a m d) (fin b k e) hx hy s n = same-finite f (fin a m d) (fin b k e) (hx .fits) (hy .fits) tt tt s n

@@ -1,0 +1,132 @@
+-- Rounding over whole numbers, the size alone: `roundedTo f a c` is the size, in units, of what a / c units round to. It grows with the fraction,
+-- nothing rounds to nothing, equal fractions round alike, and the size of a value of the format is its own rounding. Assumes nothing.
+use mathlib.Core.Path.{_≡_, refl, sym, ap, ap₂, _∙_, subst, subst₂}
+use Prim.Native.Nat.{ℕ, zero, suc, _+_, _-_, _*_, _/_, _^_, _≤_, _<_, zero-le}
+use native.Mathlib.Nat.{mul-assoc, mul-comm, mul-left-comm, mul-one, one-mul, zero-mul, mul-pos, add-zero, zero-add, sub-zero, zero-sub, le-refl, le-of-eq, le-of-lt, le-antisymm, mul-le-mul-right}
+use native.Mathlib.Omega.{arith}
+use mathlib.Core.Bool.{Bool, true, false, not, cond}
+use borrow.Author.Tests.{leb-true, lt-ltb, le-ltb, eq-eqb}
+use lib.Dec.{T, ltb, ltb→lt, nltb→le}
+use lib.Pow.{pow-pos}
+use lib.IntN.{ℤ, pos, negsuc, subℕ}
+use lib.Ieee.{Float, nan, inf, fin, Format, prec, emax, low, up, down, fits, isNan, odd, units, round, eq, le}
+use lib.Ieee.Bits.{is-true}
+use lib.Ieee.Exact.{HasValue, odd-sign, round-exact}
+use lib.Ieee.Fits.{round-is, round-fits, down-pos}
+use lib.Ieee.Order.{drop, kept, round-mono}
+use lib.Ieee.Scale.{grid, overflow, finite, round-same}
+use Rattle.binary32.specs.Whole.{negative, magnitude, over, under}
+use Rattle.binary32.specs.Rounding.{rounding}
+use Rattle.binary32.proofs.Tests.{round-nothing}
+use Rattle.binary32.proofs.Magnitude.{Number, Finite, finite-number, held, multiple, magnitude-of, magnitude-shifted, finite-under}
+use Rattle.binary32.proofs.Order.{le-whole, eq-whole}
+
+-- ---- what `round` gives: a number with the sign that it was handed, of a size that does not turn on that sign
+
+odd-negative : (d : ℕ) (s : Bool) (q k l : ℕ) → negative (odd d s q k l) ≡ s
+unfolding negative odd
+odd-negative d s zero k l = refl
+odd-negative d s (suc q) k l = refl
+
+odd-number : (d : ℕ) (s : Bool) (q k l : ℕ) → T (not (isNan (odd d s q k l)))
+unfolding isNan odd
+odd-number d s zero k l = tt
+odd-number d s (suc q) k l = tt
+
+record Signed (f : Format) (x : Float) (s : Bool) (n : ℕ) : Type 0 where
+  number : T (not (isNan x))
+  sign : negative x ≡ s
+  size : magnitude f x ≡ n
+
+units-signed : (f : Format) (s : Bool) (q k : ℕ) → Signed f (units f s q k) s (cond (ltb (q * 2 ^ k) (overflow f)) (q * 2 ^ k) (overflow f))
+unfolding units
+units-signed f s q k = go (ltb (q * 2 ^ k) (overflow f))
+  where
+    go : (b : Bool) → Signed f (cond b (odd (suc (prec f)) s q k (low f)) (inf s)) s (cond b (q * 2 ^ k) (overflow f))
+    go true = record {
+      number = odd-number (suc (prec f)) s q k (low f);
+      sign = odd-negative (suc (prec f)) s q k (low f);
+      size = magnitude-of f (odd (suc (prec f)) s q k (low f)) s (q * 2 ^ k) (odd-sign (suc (prec f)) s q k (low f));
+    }
+    go false = unfold isNan negative magnitude in record { number = tt; sign = refl; size = refl }
+
+round-signed : (f : Format) (s : Bool) (a c : ℕ) → Signed f (round f s a c) s (cond (ltb (grid f a c) (overflow f)) (grid f a c) (overflow f))
+round-signed f s a c =
+    subst (λ (z : Float). Signed f z s (cond (ltb (grid f a c) (overflow f)) (grid f a c) (overflow f))) (sym (round-is f s a c))
+    (units-signed f s (kept (prec f) (a * 2 ^ low f) c) (drop (prec f) (a * 2 ^ low f) c))
+
+pub round-number : (f : Format) (s : Bool) (a c : ℕ) → Number f (round f s a c)
+round-number f s a c = record { fits = round-fits f s a c; number = round-signed f s a c .number }
+
+pub round-negative : (f : Format) (s : Bool) (a c : ℕ) → negative (round f s a c) ≡ s
+round-negative f s a c = round-signed f s a c .sign
+
+pub round-size : (f : Format) (s : Bool) (a c : ℕ) → magnitude f (round f s a c) ≡ magnitude f (round f false a c)
+round-size f s a c = round-signed f s a c .size ∙ sym (round-signed f false a c .size)
+
+-- ---- what a number of either sign counts above and below zero
+
+pub over-positive : (f : Format) (x : Float) → negative x ≡ false → over f x ≡ magnitude f x
+unfolding over
+over-positive f x s = ap (λ (b : Bool). cond b 0 (magnitude f x)) s
+
+pub under-positive : (f : Format) (x : Float) → negative x ≡ false → under f x ≡ 0
+unfolding under
+under-positive f x s = ap (λ (b : Bool). cond b (magnitude f x) 0) s
+
+pub over-negative : (f : Format) (x : Float) → negative x ≡ true → over f x ≡ 0
+unfolding over
+over-negative f x s = ap (λ (b : Bool). cond b 0 (magnitude f x)) s
+
+pub under-negative : (f : Format) (x : Float) → negative x ≡ true → under f x ≡ magnitude f x
+unfolding under
+under-negative f x s = ap (λ (b : Bool). cond b (magnitude f x) 0) s
+
+-- ---- the size of what a / c units round to
+
+unfoldable pub roundedTo : Format → ℕ → ℕ → ℕ
+roundedTo f a c = magnitude f (round f false a (c * 2 ^ low f))
+
+pub rounded-nothing : (f : Format) (c : ℕ) → 0 < c → roundedTo f 0 c ≡ 0
+unfolding roundedTo magnitude
+rounded-nothing f c h = ap (magnitude f) (round-nothing f (c * 2 ^ low f) (mul-pos h (pow-pos (low f)))) ∙ ap (λ (n : ℕ). n / 1) (zero-mul (2 ^ low f))
+
+pub rounded-same : (f : Format) (a c b d : ℕ) → 0 < c → 0 < d → a * d ≡ b * c → roundedTo f a c ≡ roundedTo f b d
+unfolding roundedTo
+rounded-same f a c b d C D h =
+    let L = pow-pos (low f) in
+    ap (magnitude f) (round-same f false a (c * 2 ^ low f) b (d * 2 ^ low f) (mul-pos C L) (mul-pos D L) (sym (mul-assoc a d (2 ^ low f)) ∙ ap (λ (z : ℕ). z * 2 ^ low f) h ∙ mul-assoc b c (2 ^ low f)))
+
+pub rounded-mono : (f : Format) (a c b d : ℕ) → 0 < c → 0 < d → a * d ≤ b * c → roundedTo f a c ≤ roundedTo f b d
+unfolding roundedTo
+rounded-mono f a c b d C D h =
+    let L = 2 ^ low f in
+    let x = round f false a (c * L) in
+    let y = round f false b (d * L) in
+    let wide : a * (d * L) ≤ b * (c * L) = subst₂ (λ (m n : ℕ). m ≤ n) (mul-assoc a d L) (mul-assoc b c L) (mul-le-mul-right L h) in
+    let sx = round-negative f false a (c * L) in
+    let sy = round-negative f false b (d * L) in
+    let in-order : over f x + under f y ≤ over f y + under f x =
+    leb-true (over f x + under f y) (over f y + under f x)
+    (sym (le-whole (round-number f false a (c * L)) (round-number f false b (d * L)))
+    ∙ is-true (le x y) (round-mono f a (c * L) b (d * L) (mul-pos C (pow-pos (low f))) (mul-pos D (pow-pos (low f))) wide)) in
+    omega (arith, over-positive f x sx, under-positive f x sx, over-positive f y sy, under-positive f y sy)
+
+-- a value of the format is its own rounding
+own-finite : (f : Format) (s : Bool) (m : ℕ) (e : ℤ) → T (fits f (fin s m e)) → roundedTo f (magnitude f (fin s m e)) 1 ≡ magnitude f (fin s m e)
+unfolding roundedTo
+own-finite f s m e h =
+    let L = 2 ^ low f in
+    let k = multiple f m e (held f s m e h .fine) in
+    let n = magnitude f (fin s m e) in
+    let shifted : n ≡ m * 2 ^ k .shift = magnitude-shifted f s m e k in
+    let small : m * 2 ^ k .shift < overflow f = subst (λ (z : ℕ). z < overflow f) shifted (finite-under (record { fits = h; finite = tt })) in
+    magnitude-of f (round f false n (1 * L)) false n
+    (subst (λ (z : ℕ). HasValue (round f false n (1 * L)) false n z) (one-mul L)
+    (round-exact f false n (1 * L) m (k .shift) (mul-pos (pow-pos 0) (pow-pos (low f))) (held f s m e h .digits) small
+    (ap (λ (z : ℕ). z * L) shifted ∙ ap (λ (z : ℕ). m * 2 ^ k .shift * z) (sym (one-mul L)))))
+
+pub rounded-own : {f : Format} {x : Float} → Finite f x → roundedTo f (magnitude f x) 1 ≡ magnitude f x
+rounded-own {f} {x = nan} h = absurd (h .finite)
+rounded-own {f} {x = inf s} h = absurd (h .finite)
+rounded-own {f} {x = fin s m e} h = own-finite f s m e (h .fits)

@@ -1,0 +1,4 @@
+pub mod Arithmetic
+pub mod Whole
+pub mod Rounding
+pub mod Range

@@ -1,0 +1,91 @@
+-- The fit scale lies in 0..1, whatever the bases, the deltas and the floor are: the walk starts at 1 and only ever takes something smaller, which is no
+-- NaN since it was found smaller, and its end turns what is under 0 or not finite into +0. Assumes nothing.
+use mathlib.Core.Path.{_≡_, refl, sym, ap, _∙_, subst}
+use mathlib.Core.Bool.{Bool, true, false, not, _&&_, _||_, cond, false≢true}
+use mathlib.Core.List.{List, [], _∷_}
+use Prim.Native.Nat.{ℕ, _+_, _≤_, _<_}
+use native.Mathlib.Omega.{arith}
+use borrow.Author.Tests.{ltb-true, ltb-false, le-leb}
+use lib.Dec.{T, leb, ltb}
+use lib.Ieee.{Float, nan, inf, fin, binary32, fits, isNan, lt, le, eq, neg, ofBits}
+use lib.Ieee.Bits.{ofBits-fits}
+use lib.Ieee.Fits.{div-fits, cond-fits}
+use lib.Ieee.Scale.{finite}
+use Rattle.binary32.specs.Arithmetic.{_-f_, _/f_, 0f, 1f, small}
+use Rattle.binary32.specs.Whole.{over, under}
+use Rattle.binary32.specs.Range.{Between}
+use Rattle.binary32.proofs.Magnitude.{Number}
+use Rattle.binary32.proofs.Order.{lt-whole, le-whole}
+use Rattle.fit.specs.Fit.{limits, motorLimit, tightened, walk, settled, fitScale}
+
+-- ---- a scale that is held: a number, at most 1
+
+pub record Held (s : Float) : Type 0 where
+  pub number : Number binary32 s
+  pub most : over binary32 s + under binary32 1f ≤ over binary32 1f + under binary32 s
+
+one-number : Number binary32 1f
+unfolding isNan ofBits
+one-number = record { fits = ofBits-fits binary32 0x3f80_0000; number = tt }
+
+one-held : Held 1f
+one-held = record { number = one-number; most = omega arith }
+
+zero-number : Number binary32 0f
+unfolding isNan ofBits
+zero-number = record { fits = ofBits-fits binary32 0; number = tt }
+
+-- what is smaller than something is a number
+smaller-number : (x y : Float) → lt x y ≡ true → T (not (isNan x))
+unfolding lt isNan
+smaller-number nan y h = absurd (false≢true h)
+smaller-number (inf s) y h = tt
+smaller-number (fin s m e) y h = tt
+
+limit-fits : (floor b d : Float) → T (fits binary32 (motorLimit floor b d))
+unfolding motorLimit
+limit-fits floor b d = cond-fits binary32 (lt small d) ((1f -f b) /f d) ((b -f floor) /f neg d) (div-fits binary32 (1f -f b) d) (div-fits binary32 (b -f floor) (neg d))
+
+-- ---- the walk keeps it
+
+step-held : (floor s b d : Float) → Held s → Held (tightened floor s b d)
+unfolding tightened
+step-held floor s b d h = go (limits d) (lt (motorLimit floor b d) s) refl
+  where
+    l : Float
+    l = motorLimit floor b d
+
+    go : (p q : Bool) → lt l s ≡ q → Held (cond (p && q) l s)
+    go false q e = h
+    go true false e = h
+    go true true e =
+        let n : Number binary32 l = record { fits = limit-fits floor b d; number = smaller-number l s e } in
+        let less : over binary32 l + under binary32 s < over binary32 s + under binary32 l = ltb-true _ _ (sym (lt-whole n (h .number)) ∙ e) in
+        let most = h .most in
+        record { number = n; most = omega arith }
+
+walk-held : (floor s : Float) (bs ds : List Float) → Held s → Held (walk floor s bs ds)
+unfolding walk
+walk-held floor s [] ds h = h
+walk-held floor s (b ∷ bs) [] h = h
+walk-held floor s (b ∷ bs) (d ∷ ds) h = walk-held floor (tightened floor s b d) bs ds (step-held floor s b d h)
+
+-- ---- the end
+
+settled-between : (s : Float) → Held s → Between 0f 1f (settled s)
+unfolding settled
+settled-between s h = go (lt s 0f) (finite s) refl
+  where
+    none : Between 0f 1f 0f
+    none = unfold le lt eq ofBits in record { from = refl; to = refl }
+
+    go : (p q : Bool) → lt s 0f ≡ p → Between 0f 1f (cond (p || not q) 0f s)
+    go true q e = none
+    go false false e = none
+    go false true e =
+        let least : over binary32 0f + under binary32 s ≤ over binary32 s + under binary32 0f = ltb-false _ _ (sym (lt-whole (h .number) zero-number) ∙ e) in
+        record { from = le-whole zero-number (h .number) ∙ le-leb _ _ least; to = le-whole (h .number) one-number ∙ le-leb _ _ (h .most) }
+
+pub scale-between : (floor : Float) (bs ds : List Float) → Between 0f 1f (fitScale floor bs ds)
+unfolding fitScale
+scale-between floor bs ds = settled-between (walk floor 1f bs ds) (walk-held floor 1f bs ds one-held)

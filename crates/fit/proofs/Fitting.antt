@@ -1,0 +1,112 @@
+-- The fit scale is exactly 1 where each base plus its delta, taken exactly, lies in floor..1: no motor's limit is then under 1, so that the walk never
+-- leaves the 1 that it started from. Nothing is asked of a base alone. Assumes nothing.
+use mathlib.Core.Path.{_≡_, refl, sym, ap, _∙_, subst}
+use mathlib.Core.Bool.{Bool, true, false, not, _&&_, _||_, cond}
+use mathlib.Core.List.{List, [], _∷_}
+use Prim.Native.Nat.{ℕ, zero, suc, _+_, _≤_, _<_}
+use native.Mathlib.Omega.{arith}
+use borrow.Author.Tests.{ltb-true}
+use lib.Dec.{T}
+use lib.IntN.{ℤ}
+use lib.ListN.{getD}
+use lib.Signed.{_≤ℤ_}
+use lib.Ieee.{Float, nan, binary32, fits, isNan, lt, neg, ofBits}
+use lib.Ieee.Bits.{ofBits-fits}
+use lib.Ieee.Fits.{neg-fits}
+use lib.Ieee.Scale.{finite}
+use Rattle.binary32.specs.Arithmetic.{_-f_, _/f_, 0f, 1f, small}
+use Rattle.binary32.specs.Whole.{negative, over, under, wholeOf}
+use Rattle.binary32.specs.Range.{exactSum, SumWithin}
+use Rattle.binary32.proofs.Magnitude.{Number, Finite, finite-number}
+use Rattle.binary32.proofs.Order.{lt-whole}
+use Rattle.binary32.proofs.Integers.{Difference, whole-difference, sum-of, order-of}
+use Rattle.binary32.proofs.Operations.{neg-finite, over-neg, under-neg}
+use Rattle.binary32.proofs.Products.{one-is-unit}
+use Rattle.fit.specs.Fit.{limits, motorLimit, tightened, walk, settled, fitScale, EachMotor}
+use Rattle.fit.proofs.Room.{Positive, positive, enough-room}
+
+-- ---- a delta over small, or under -small, is not zero
+
+small-finite : Finite binary32 small
+unfolding ofBits
+small-finite = record { fits = ofBits-fits binary32 0x3586_37bd; finite = tt }
+
+one-finite : Finite binary32 1f
+unfolding ofBits
+one-finite = record { fits = ofBits-fits binary32 0x3f80_0000; finite = tt }
+
+small-plus : under binary32 small ≡ 0
+unfolding under negative ofBits
+small-plus = refl
+
+over-small : {d : Float} → Finite binary32 d → lt small d ≡ true → Positive binary32 d
+over-small {d} h e =
+    let n = finite-number h in
+    let less : over binary32 small + under binary32 d < over binary32 d + under binary32 small = ltb-true _ _ (sym (lt-whole (finite-number small-finite) n) ∙ e) in
+    positive n (omega (arith, small-plus))
+
+under-small : {d : Float} → Finite binary32 d → lt d (neg small) ≡ true → Positive binary32 (neg d)
+under-small {d} h e =
+    let n = finite-number h in
+    let m = finite-number (neg-finite small-finite) in
+    let less : over binary32 d + under binary32 (neg small) < over binary32 (neg small) + under binary32 d = ltb-true _ _ (sym (lt-whole n m) ∙ e) in
+    positive (finite-number (neg-finite h)) (omega (arith, small-plus, over-neg binary32 small, under-neg binary32 small, over-neg binary32 d))
+
+-- ---- the exact sum, as natural numbers
+
+module _ {lo hi b d : Float} (w : SumWithin lo hi b d) where
+  sum-difference : Difference (exactSum b d) (over binary32 b + over binary32 d) (under binary32 b + under binary32 d)
+  unfolding exactSum
+  sum-difference = sum-of (wholeOf binary32 b) (wholeOf binary32 d) (over binary32 b) (under binary32 b) (over binary32 d) (under binary32 d) (whole-difference binary32 b) (whole-difference binary32 d)
+
+  pub at-least : over binary32 lo + (under binary32 b + under binary32 d) ≤ over binary32 b + over binary32 d + under binary32 lo
+  at-least = order-of (wholeOf binary32 lo) (exactSum b d) _ _ _ _ (whole-difference binary32 lo) sum-difference (w .from)
+
+  pub at-most : over binary32 b + over binary32 d + under binary32 hi ≤ over binary32 hi + (under binary32 b + under binary32 d)
+  at-most = order-of (exactSum b d) (wholeOf binary32 hi) _ _ _ _ sum-difference (whole-difference binary32 hi) (w .to)
+
+-- ---- one motor, and all
+
+motor-fitting : (floor b d : Float) → Finite binary32 floor → T (fits binary32 b) → T (fits binary32 d) → SumWithin floor 1f b d → tightened floor 1f b d ≡ 1f
+unfolding limits motorLimit tightened
+motor-fitting floor b d hf fb fd w = go (lt small d) (lt d (neg small)) refl refl
+  where
+    hb : Finite binary32 b
+    hb = record { fits = fb; finite = w .first }
+
+    hd : Finite binary32 d
+    hd = record { fits = fd; finite = w .second }
+
+    no-limit : (x : Float) → lt x 1f ≡ false → cond (lt x 1f) x 1f ≡ 1f
+    no-limit x e = ap (λ (t : Bool). cond t x 1f) e
+
+    go : (u v : Bool) → lt small d ≡ u → lt d (neg small) ≡ v
+        → cond ((u || v) && lt (cond u ((1f -f b) /f d) ((b -f floor) /f neg d)) 1f) (cond u ((1f -f b) /f d) ((b -f floor) /f neg d)) 1f ≡ 1f
+    go true v e g =
+        let room = at-most w in
+        no-limit ((1f -f b) /f d) (ap (lt ((1f -f b) /f d)) one-is-unit ∙ enough-room one-finite hb hd (over-small hd e) (omega arith))
+    go false true e g =
+        let room = at-least w in
+        no-limit ((b -f floor) /f neg d)
+        (ap (lt ((b -f floor) /f neg d)) one-is-unit ∙ enough-room hb hf (neg-finite hd) (under-small hd g) (omega (arith, over-neg binary32 d, under-neg binary32 d)))
+    go false false e g = refl
+
+Held : List Float → Type 0
+Held xs = (k : ℕ) → T (fits binary32 (getD xs k nan))
+
+walk-fitting : (floor : Float) (bs ds : List Float) → Finite binary32 floor → Held bs → Held ds → EachMotor (SumWithin floor 1f) bs ds → walk floor 1f bs ds ≡ 1f
+unfolding walk Held
+walk-fitting floor [] ds hf fb fd w = refl
+walk-fitting floor (b ∷ bs) [] hf fb fd w = refl
+walk-fitting floor (b ∷ bs) (d ∷ ds) hf fb fd w =
+    ap (λ (s : Float). walk floor s bs ds) (motor-fitting floor b d hf (fb 0) (fd 0) (w .0))
+    ∙ walk-fitting floor bs ds hf (λ k. fb (suc k)) (λ k. fd (suc k)) (w .1)
+
+one-settles : settled 1f ≡ 1f
+unfolding settled lt ofBits
+one-settles = refl
+
+pub scale-fitting : (floor : Float) (bs ds : List Float) → Finite binary32 floor → ((k : ℕ) → T (fits binary32 (getD bs k nan))) → ((k : ℕ) → T (fits binary32 (getD ds k nan)))
+    → EachMotor (SumWithin floor 1f) bs ds → fitScale floor bs ds ≡ 1f
+unfolding fitScale Held
+scale-fitting floor bs ds hf fb fd w = ap settled (walk-fitting floor bs ds hf fb fd w) ∙ one-settles

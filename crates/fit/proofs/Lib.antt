@@ -1,0 +1,5 @@
+pub mod Step
+pub mod Walk
+pub mod Bounded
+pub mod Room
+pub mod Fitting

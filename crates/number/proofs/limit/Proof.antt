@@ -1,0 +1,18 @@
+-- `number::limit` meets its contract: `clamp` of what `sanitise` gives. Assumes nothing.
+use borrow.Author.Needs.{needs}
+use Rattle.number.specs.Treat.{limited}
+use Rattle.number.proofs.limit.Statement.{statement}
+use Rattle.number.proofs.limit.Tie as tie
+
+sanitise-requires : tie.Need-sanitise-requires
+sanitise-requires c κs = search needs
+
+clamp-requires : tie.Need-clamp-requires
+clamp-requires c κs = search needs
+
+returns : tie.Need-returns
+unfolding limited
+returns c = simp (c .clamp .ensures, c .before .sanitise .ensures)
+
+pub limit-spec : {M : Type 1} → statement M
+limit-spec = tie.close (tie.spec sanitise-requires clamp-requires returns)

@@ -1,0 +1,2 @@
+pub mod Treat
+pub mod Bytes
