@@ -1,11 +1,10 @@
 -- The size of a number in units of its format's smallest value: it is exact for every number that the format holds, it lies under the overflow
 -- bound where the number is finite, and a sign and a size belong to one number alone. Assumes nothing.
 use mathlib.Core.Path.{_≡_, refl, sym, ap, _∙_, subst, subst₂, ap₂}
-use mathlib.Core.Logic.{inl, inr}
 use Prim.Native.Nat.{ℕ, zero, suc, _+_, _-_, _*_, _/_, _%_, _^_, _≤_, _<_}
-use native.Mathlib.Nat.{mul-one, one-mul, mul-assoc, mul-comm, mul-right-comm, mul-left-comm, div-one, mul-div-cancel, zero-mul, lt-of-mul-lt-mul-right, mul-lt-mul-of-pos-right, zero-div, lt-of-not-le, not-le-of-lt, lt-irrefl, le-of-suc-le-suc}
+use native.Mathlib.Nat.{mul-one, one-mul, mul-assoc, mul-comm, mul-right-comm, mul-left-comm, mul-div-cancel, zero-mul, lt-of-mul-lt-mul-right, mul-lt-mul-of-pos-right, zero-div, lt-of-not-le, not-le-of-lt, lt-irrefl, le-of-suc-le-suc}
 use native.Mathlib.Omega.{arith}
-use mathlib.Core.Bool.{Bool, true, false, not, _&&_, cond}
+use mathlib.Core.Bool.{Bool, not, _&&_, cond}
 use lib.Dec.{T, leb→le, ltb→lt, eqb→eq, leb, ltb, eqb}
 use lib.Pow.{pow-add, pow-pos, pow-lt}
 use lib.IntN.{ℤ, pos, negsuc}
@@ -35,6 +34,33 @@ finite-number {f} {x} h = record { fits = h .fits; number = no-nan x (h .finite)
     no-nan nan t = t
     no-nan (inf s) t = absurd t
     no-nan (fin s m e) t = tt
+
+-- what holds of every `fin` that the format holds, holds of every finite number, and of every two
+pub by-finite : {f : Format} {x : Float} (P : Float → Type 0) → ((s : Bool) (m : ℕ) (e : ℤ) → T (fits f (fin s m e)) → P (fin s m e)) → Finite f x → P x
+by-finite {x = nan} P k h = absurd (h .finite)
+by-finite {x = inf s} P k h = absurd (h .finite)
+by-finite {x = fin s m e} P k h = k s m e (h .fits)
+
+pub by-finite₂ : {f : Format} {x y : Float} (P : Float → Float → Type 0)
+    → ((s : Bool) (m : ℕ) (e : ℤ) (t : Bool) (n : ℕ) (d : ℤ) → T (fits f (fin s m e)) → T (fits f (fin t n d)) → P (fin s m e) (fin t n d))
+    → Finite f x → Finite f y → P x y
+by-finite₂ {y} P k hx hy = by-finite (λ x. P x y) (λ s m e p. by-finite (λ y. P (fin s m e) y) (λ t n d q. k s m e t n d p q) hy) hx
+
+-- what holds of every two of an infinity and a `fin`, holds of every two numbers
+pub by-number₂ : {f : Format} {x y : Float} (P : Float → Float → Type 0)
+    → ((s t : Bool) → P (inf s) (inf t))
+    → ((s t : Bool) (n : ℕ) (d : ℤ) → Finite f (fin t n d) → P (inf s) (fin t n d))
+    → ((s : Bool) (m : ℕ) (e : ℤ) (t : Bool) → Finite f (fin s m e) → P (fin s m e) (inf t))
+    → ((s : Bool) (m : ℕ) (e : ℤ) (t : Bool) (n : ℕ) (d : ℤ) → T (fits f (fin s m e)) → T (fits f (fin t n d)) → P (fin s m e) (fin t n d))
+    → Number f x → Number f y → P x y
+unfolding isNan
+by-number₂ {x = nan} {y} P ii if fi ff hx hy = absurd (hx .number)
+by-number₂ {x = inf s} {y = nan} P ii if fi ff hx hy = absurd (hy .number)
+by-number₂ {x = inf s} {y = inf t} P ii if fi ff hx hy = ii s t
+by-number₂ {x = inf s} {y = fin t n d} P ii if fi ff hx hy = if s t n d (record { fits = hy .fits; finite = tt })
+by-number₂ {x = fin s m e} {y = nan} P ii if fi ff hx hy = absurd (hy .number)
+by-number₂ {x = fin s m e} {y = inf t} P ii if fi ff hx hy = fi s m e t (record { fits = hx .fits; finite = tt })
+by-number₂ {x = fin s m e} {y = fin t n d} P ii if fi ff hx hy = ff s m e t n d (hx .fits) (hy .fits)
 
 -- ---- what it takes to be held: the parts of `fits`
 
@@ -139,12 +165,11 @@ same-finite f x y hx hy tx ty s n =
 an-infinity-is-larger : {f : Format} {x : Float} → Finite f x → overflow f ≡ magnitude f x → ⊥
 an-infinity-is-larger {f} {x} h e = lt-irrefl (overflow f) (subst (λ (n : ℕ). n < overflow f) (sym e) (finite-under h))
 
-pub same-number : (f : Format) (x y : Float) → Number f x → Number f y → negative x ≡ negative y → magnitude f x ≡ magnitude f y → x ≡ y
-unfolding isNan negative magnitude
-same-number f nan y hx hy s n = absurd (hx .number)
-same-number f (inf a) nan hx hy s n = absurd (hy .number)
-same-number f (inf a) (inf b) hx hy s n = ap inf s
-same-number f (inf a) (fin b k e) hx hy s n = absurd (an-infinity-is-larger (record { fits = hy .fits; finite = tt }) n)
-same-number f (fin a m d) nan hx hy s n = absurd (hy .number)
-same-number f (fin a m d) (inf b) hx hy s n = absurd (an-infinity-is-larger (record { fits = hx .fits; finite = tt }) (sym n))
-same-number f (fin a m d) (fin b k e) hx hy s n = same-finite f (fin a m d) (fin b k e) (hx .fits) (hy .fits) tt tt s n
+pub same-number : {f : Format} {x y : Float} → Number f x → Number f y → negative x ≡ negative y → magnitude f x ≡ magnitude f y → x ≡ y
+unfolding negative magnitude
+same-number {f} =
+    by-number₂ (λ x y. negative x ≡ negative y → magnitude f x ≡ magnitude f y → x ≡ y)
+    (λ s t a n. ap inf a)
+    (λ s t n d h a e. absurd (an-infinity-is-larger h e))
+    (λ s m e t h a n. absurd (an-infinity-is-larger h (sym n)))
+    (λ s m e t n d p q a k. same-finite f (fin s m e) (fin t n d) p q tt tt a k)

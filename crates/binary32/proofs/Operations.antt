@@ -2,20 +2,20 @@
 -- difference of the operands' units, a product over 2 ^ low, a quotient multiplied by 2 ^ low. They hold for the kit's `add`, `sub`, `mul`
 -- and `div` in either format, for every finite operand but a zero divisor. Assumes nothing.
 use mathlib.Core.Path.{_≡_, refl, sym, ap, ap₂, _∙_, subst}
-use Prim.Native.Nat.{ℕ, zero, suc, _+_, _-_, _*_, _^_, _≤_, _<_, zero-le}
-use native.Mathlib.Nat.{lt-irrefl, zero-lt-suc, add-mul, mul-sub, mul-comm, mul-assoc, mul-left-comm, mul-right-comm, mul-one, one-mul, mul-zero, zero-mul, mul-pos, add-zero, zero-add, sub-self}
+use Prim.Native.Nat.{ℕ, zero, suc, _+_, _-_, _*_, _^_, _≤_, _<_}
+use native.Mathlib.Nat.{lt-irrefl, zero-lt-suc, add-mul, mul-comm, mul-assoc, mul-left-comm, one-mul, zero-mul, mul-pos}
 use native.Mathlib.Omega.{arith}
-use mathlib.Core.Bool.{Bool, true, false, not, cond, _&&_, Bool·beq}
-use borrow.Author.Tests.{ltb-true, ltb-false}
-use lib.Dec.{T, ltb, eqb, eqb·suc-zero}
+use mathlib.Core.Bool.{Bool, true, false, cond, _&&_, Bool·not-not}
+use borrow.Author.Tests.{ltb-true, ltb-false, ne-eqb}
+use lib.Dec.{ltb}
 use lib.Pow.{pow-pos}
 use lib.IntN.{ℤ}
 use lib.Ieee.{Float, nan, inf, fin, Format, low, up, down, fits, round, sum, neg, add, sub, mul, div, unlike}
 use lib.Ieee.Fits.{up-pos, down-pos, neg-fits}
 use lib.Ieee.Scale.{finite, round-same}
 use Rattle.binary32.specs.Whole.{negative, magnitude, over, under}
-use Rattle.binary32.proofs.Magnitude.{Finite, magnitude-exact, magnitude-scaled, magnitude-zero}
-use Rattle.binary32.proofs.Order.{Alike, alike, sizes-alike}
+use Rattle.binary32.proofs.Magnitude.{Finite, by-finite, by-finite₂, magnitude-exact, magnitude-scaled, magnitude-zero}
+use Rattle.binary32.proofs.Order.{alike}
 use Rattle.binary32.proofs.Rounded.{Rounded, round-positive, round-minus, by-difference, times-difference}
 
 -- ---- sums
@@ -60,29 +60,31 @@ sum-rounded f true x false y = go (ltb x y) (ltb y x) refl refl
 
 pub add-rounded : {f : Format} {x y : Float} → Finite f x → Finite f y → Rounded f (add f x y) (over f x + over f y) (under f x + under f y) 1
 unfolding add over under negative
-add-rounded {f} {x = nan} {y} hx hy = absurd (hx .finite)
-add-rounded {f} {x = inf s} {y} hx hy = absurd (hx .finite)
-add-rounded {f} {x = fin s m e} {y = nan} hx hy = absurd (hy .finite)
-add-rounded {f} {x = fin s m e} {y = inf t} hx hy = absurd (hy .finite)
-add-rounded {f} {x = fin s m e} {y = fin t n d} hx hy =
+add-rounded {f} =
+    by-finite₂ (λ x y. Rounded f (add f x y) (over f x + over f y) (under f x + under f y) 1)
+    (λ s m e t n d p q.
     let X = magnitude f (fin s m e) in
     let Y = magnitude f (fin t n d) in
     subst (λ (z : Float). Rounded f z (cond s 0 X + cond t 0 Y) (cond s X 0 + cond t Y 0) 1)
     (sym (sum-same f s t (m * up e * down d) (n * up d * down e) (down e * down d) X Y (1 * 2 ^ low f)
     (mul-pos (down-pos e) (down-pos d)) (mul-pos (pow-pos 0) (pow-pos (low f)))
-    (rw one-mul (magnitude-scaled f s m e (hx .fits) (down d)))
-    (rw (one-mul, mul-comm (down e) (down d)) (magnitude-scaled f t n d (hy .fits) (down e)))))
-    (sum-rounded f s X t Y)
+    (rw one-mul (magnitude-scaled f s m e p (down d)))
+    (rw (one-mul, mul-comm (down e) (down d)) (magnitude-scaled f t n d q (down e)))))
+    (sum-rounded f s X t Y))
 
 -- ---- differences
 
 pub neg-finite : {f : Format} {x : Float} → Finite f x → Finite f (neg x)
 unfolding neg
-neg-finite {f} {x = nan} h = absurd (h .finite)
-neg-finite {f} {x = inf s} h = absurd (h .finite)
-neg-finite {f} {x = fin s m e} h = record { fits = neg-fits f (fin s m e) (h .fits); finite = tt }
+neg-finite {f} = by-finite (λ x. Finite f (neg x)) (λ s m e p. record { fits = neg-fits f (fin s m e) p; finite = tt })
 
--- what a number counts above zero its negative counts below
+neg-neg : (x : Float) → neg (neg x) ≡ x
+unfolding neg
+neg-neg nan = refl
+neg-neg (inf s) = ap inf (Bool·not-not s)
+neg-neg (fin s m e) = ap (λ (t : Bool). fin t m e) (Bool·not-not s)
+
+-- what a number counts above zero its negative counts below, and the other way round
 pub over-neg : (f : Format) (x : Float) → over f (neg x) ≡ under f x
 unfolding neg over under negative magnitude
 over-neg f nan = refl
@@ -92,12 +94,7 @@ over-neg f (fin true m e) = refl
 over-neg f (fin false m e) = refl
 
 pub under-neg : (f : Format) (x : Float) → under f (neg x) ≡ over f x
-unfolding neg over under negative magnitude
-under-neg f nan = refl
-under-neg f (inf true) = refl
-under-neg f (inf false) = refl
-under-neg f (fin true m e) = refl
-under-neg f (fin false m e) = refl
+under-neg f x = sym (over-neg f (neg x)) ∙ ap (over f) (neg-neg x)
 
 pub sub-rounded : {f : Format} {x y : Float} → Finite f x → Finite f y → Rounded f (sub f x y) (over f x + under f y) (under f x + over f y) 1
 unfolding sub
@@ -119,18 +116,16 @@ product-same a b d e x y l p q = simp (mul-assoc, mul-comm, mul-left-comm) (simp
 pub mul-rounded : {f : Format} {x y : Float} → Finite f x → Finite f y
     → Rounded f (mul f x y) (over f x * over f y + under f x * under f y) (over f x * under f y + under f x * over f y) (2 ^ low f)
 unfolding mul over under negative
-mul-rounded {f} {x = nan} {y} hx hy = absurd (hx .finite)
-mul-rounded {f} {x = inf s} {y} hx hy = absurd (hx .finite)
-mul-rounded {f} {x = fin s m e} {y = nan} hx hy = absurd (hy .finite)
-mul-rounded {f} {x = fin s m e} {y = inf t} hx hy = absurd (hy .finite)
-mul-rounded {f} {x = fin s m e} {y = fin t n d} hx hy =
+mul-rounded {f} =
+    by-finite₂ (λ x y. Rounded f (mul f x y) (over f x * over f y + under f x * under f y) (over f x * under f y + under f x * over f y) (2 ^ low f))
+    (λ s m e t n d p q.
     let X = magnitude f (fin s m e) in
     let Y = magnitude f (fin t n d) in
     let L = 2 ^ low f in
     subst (λ (z : Float). Rounded f z (cond s 0 X * cond t 0 Y + cond s X 0 * cond t Y 0) (cond s 0 X * cond t Y 0 + cond s X 0 * cond t 0 Y) L)
     (sym (round-same f (unlike s t) (m * up e * (n * up d)) (down e * down d) (X * Y) (L * L) (mul-pos (down-pos e) (down-pos d)) (mul-pos (pow-pos (low f)) (pow-pos (low f)))
-    (product-same (m * up e) (n * up d) (down e) (down d) X Y L (magnitude-exact f s m e (hx .fits)) (magnitude-exact f t n d (hy .fits)))))
-    (times-rounded f s X t Y L (pow-pos (low f)))
+    (product-same (m * up e) (n * up d) (down e) (down d) X Y L (magnitude-exact f s m e p) (magnitude-exact f t n d q))))
+    (times-rounded f s X t Y L (pow-pos (low f))))
 
 -- ---- quotients
 
@@ -145,20 +140,28 @@ over-rounded f true x false y h = by-difference (round-minus f (x * 2 ^ low f) y
 quotient-same : (a b d e x y l : ℕ) → x * d ≡ a * l → y * e ≡ b * l → a * e * (y * l) ≡ x * l * (b * d)
 quotient-same a b d e x y l p q = simp (mul-assoc, mul-comm, mul-left-comm) (simp (mul-assoc, mul-comm, mul-left-comm) at (ap₂ _*_ (sym p) q))
 
+-- the kit's quotient where the divisor is not zero
+div-finite : (f : Format) (s : Bool) (m : ℕ) (e : ℤ) (t : Bool) (n : ℕ) (d : ℤ) → 0 < n → div f (fin s m e) (fin t n d) ≡ round f (unlike s t) (m * up e * down d) (n * up d * down e)
+unfolding div
+div-finite f s m e t n d h = rw (ne-eqb n 0 (λ z. omega arith))
+
+-- a size is not zero, so the significand is not
+significand : (f : Format) (t : Bool) (n : ℕ) (d : ℤ) → 0 < magnitude f (fin t n d) → 0 < n
+significand f t zero d h = absurd (lt-irrefl 0 (subst (λ (k : ℕ). 0 < k) (magnitude-zero f t d) h))
+significand f t (suc n) d h = zero-lt-suc n
+
 pub div-rounded : {f : Format} {x y : Float} → Finite f x → Finite f y → 0 < magnitude f y
     → Rounded f (div f x y) (cond (negative y) (under f x) (over f x) * 2 ^ low f) (cond (negative y) (over f x) (under f x) * 2 ^ low f) (magnitude f y)
-unfolding div over under negative
-div-rounded {f} {x = nan} {y} hx hy h = absurd (hx .finite)
-div-rounded {f} {x = inf s} {y} hx hy h = absurd (hx .finite)
-div-rounded {f} {x = fin s m e} {y = nan} hx hy h = absurd (hy .finite)
-div-rounded {f} {x = fin s m e} {y = inf t} hx hy h = absurd (hy .finite)
-div-rounded {f} {x = fin s m e} {y = fin t zero d} hx hy h = absurd (lt-irrefl 0 (subst (λ (n : ℕ). 0 < n) (magnitude-zero f t d) h))
-div-rounded {f} {x = fin s m e} {y = fin t (suc n) d} hx hy h =
+unfolding over under negative
+div-rounded {f} =
+    by-finite₂ (λ x y. 0 < magnitude f y → Rounded f (div f x y) (cond (negative y) (under f x) (over f x) * 2 ^ low f) (cond (negative y) (over f x) (under f x) * 2 ^ low f) (magnitude f y))
+    (λ s m e t n d p q h.
     let X = magnitude f (fin s m e) in
-    let Y = magnitude f (fin t (suc n) d) in
+    let Y = magnitude f (fin t n d) in
     let L = 2 ^ low f in
+    let N = significand f t n d h in
     subst (λ (z : Float). Rounded f z (cond t (cond s X 0) (cond s 0 X) * L) (cond t (cond s 0 X) (cond s X 0) * L) Y)
-    (sym (ap (λ (b : Bool). cond b (cond (eqb m 0) nan (inf (unlike s t))) (round f (unlike s t) (m * up e * down d) (suc n * up d * down e))) (eqb·suc-zero n)
-    ∙ round-same f (unlike s t) (m * up e * down d) (suc n * up d * down e) (X * L) (Y * L) (mul-pos (mul-pos (zero-lt-suc n) (up-pos d)) (down-pos e)) (mul-pos h (pow-pos (low f)))
-    (quotient-same (m * up e) (suc n * up d) (down e) (down d) X Y L (magnitude-exact f s m e (hx .fits)) (magnitude-exact f t (suc n) d (hy .fits)))))
-    (over-rounded f s X t Y h)
+    (sym (div-finite f s m e t n d N
+    ∙ round-same f (unlike s t) (m * up e * down d) (n * up d * down e) (X * L) (Y * L) (mul-pos (mul-pos N (up-pos d)) (down-pos e)) (mul-pos h (pow-pos (low f)))
+    (quotient-same (m * up e) (n * up d) (down e) (down d) X Y L (magnitude-exact f s m e p) (magnitude-exact f t n d q))))
+    (over-rounded f s X t Y h))

@@ -1,22 +1,22 @@
 -- The comparisons of IEEE 754-2019 (5.6.1, 5.11) on two numbers that a format holds are those of whole numbers: x < y says that over x - under x
 -- is less than over y - under y, which is written without a difference. An infinity counts as the overflow bound. Assumes nothing.
-use mathlib.Core.Path.{_≡_, refl, sym, ap, ap₂, _∙_, subst, subst₂}
+use mathlib.Core.Path.{_≡_, refl, sym, ap, ap₂, _∙_, subst₂}
 use mathlib.Core.Logic.{inl, inr}
-use Prim.Native.Nat.{ℕ, zero, suc, _+_, _*_, _^_, _≤_, _<_, zero-le}
-use native.Mathlib.Nat.{eq-or-lt-of-le, zero-mul, add-mul, mul-pos, add-zero, zero-add, add-comm, mul-assoc, mul-comm, mul-right-comm, mul-left-comm, lt-irrefl, lt-of-mul-lt-mul-right, mul-lt-mul-of-pos-right, eq-of-mul-eq-mul-right}
+use Prim.Native.Nat.{ℕ, suc, _+_, _*_, _^_, _≤_, _<_, zero-le}
+use native.Mathlib.Nat.{eq-or-lt-of-le, zero-mul, add-mul, mul-pos, add-zero, zero-add, add-comm, mul-comm, lt-of-mul-lt-mul-right, mul-lt-mul-of-pos-right, eq-of-mul-eq-mul-right}
 use native.Mathlib.Decide.{decLe}
 use native.Mathlib.Omega.{arith}
 use mathlib.Core.Bool.{Bool, true, false, not, cond, _&&_, _||_, Bool·beq}
-use lib.Dec.{T, leb, ltb, eqb, ltb→lt, lt→ltb, nltb→le, leb→le, le→leb, eqb→eq, not-T, T-not}
+use lib.Dec.{T, leb, ltb, eqb, ltb→lt, lt→ltb, eqb→eq}
 use borrow.Author.Tests.{lt-ltb, le-ltb, le-leb, lt-leb, eq-eqb, ne-eqb}
 use lib.Pow.{pow-pos}
 use lib.IntN.{ℤ}
-use lib.Ieee.{Float, nan, inf, fin, Format, low, emax, up, down, below, level, lt, eq, le, neg, isNan, fits}
-use lib.Ieee.Bits.{is-true, is-false}
+use lib.Ieee.{Float, nan, inf, fin, Format, low, emax, up, down, below, level, lt, eq, le, neg, fits}
+use lib.Ieee.Bits.{is-true}
 use lib.Ieee.Fits.{down-pos, eq→eqb, and-i, and-l, and-r}
 use lib.Ieee.Scale.{overflow}
 use Rattle.binary32.specs.Whole.{negative, magnitude, over, under}
-use Rattle.binary32.proofs.Magnitude.{Number, Finite, magnitude-scaled, finite-under}
+use Rattle.binary32.proofs.Magnitude.{Number, by-number₂, magnitude-scaled, finite-under}
 
 -- ---- two tests that pass together are one
 
@@ -125,15 +125,14 @@ bound-both false true o h = refl
 bound-both true false o h = sym (lt-ltb 0 (o + o) (omega arith))
 bound-both true true o h = sym (le-ltb o o (omega arith))
 
-lt-sizes : (f : Format) (x y : Float) → Number f x → Number f y → lt x y ≡ below (negative x) (magnitude f x) (negative y) (magnitude f y)
-unfolding isNan lt negative magnitude
-lt-sizes f nan y hx hy = absurd (hx .number)
-lt-sizes f (inf s) nan hx hy = absurd (hy .number)
-lt-sizes f (inf s) (inf t) hx hy = bound-both s t (overflow f) (pow-pos (low f + suc (emax f)))
-lt-sizes f (inf s) (fin t n d) hx hy = bound-first s t (overflow f) (magnitude f (fin t n d)) (finite-under (record { fits = hy .fits; finite = tt }))
-lt-sizes f (fin s m e) nan hx hy = absurd (hy .number)
-lt-sizes f (fin s m e) (inf t) hx hy = bound-second s t (magnitude f (fin s m e)) (overflow f) (finite-under (record { fits = hx .fits; finite = tt }))
-lt-sizes f (fin s m e) (fin t n d) hx hy = below-alike s t (sizes-alike f s m e t n d (hx .fits) (hy .fits))
+lt-sizes : {f : Format} {x y : Float} → Number f x → Number f y → lt x y ≡ below (negative x) (magnitude f x) (negative y) (magnitude f y)
+unfolding lt negative magnitude
+lt-sizes {f} =
+    by-number₂ (λ x y. lt x y ≡ below (negative x) (magnitude f x) (negative y) (magnitude f y))
+    (λ s t. bound-both s t (overflow f) (pow-pos (low f + suc (emax f))))
+    (λ s t n d h. bound-first s t (overflow f) (magnitude f (fin t n d)) (finite-under h))
+    (λ s m e t h. bound-second s t (magnitude f (fin s m e)) (overflow f) (finite-under h))
+    (λ s m e t n d p q. below-alike s t (sizes-alike f s m e t n d p q))
 
 or-false : (b : Bool) → b || false ≡ b
 or-false true = refl
@@ -148,15 +147,14 @@ apart-second s t x o h = simp (ne-eqb x o (λ e. omega arith))
 bound-level : (s t : Bool) (o : ℕ) → 0 < o → Bool·beq s t ≡ level s o t o
 bound-level s t o h = simp (eq-eqb o o refl, ne-eqb o 0 (λ e. omega arith)) (sym (or-false (Bool·beq s t)))
 
-eq-sizes : (f : Format) (x y : Float) → Number f x → Number f y → eq x y ≡ level (negative x) (magnitude f x) (negative y) (magnitude f y)
-unfolding isNan eq negative magnitude
-eq-sizes f nan y hx hy = absurd (hx .number)
-eq-sizes f (inf s) nan hx hy = absurd (hy .number)
-eq-sizes f (inf s) (inf t) hx hy = bound-level s t (overflow f) (pow-pos (low f + suc (emax f)))
-eq-sizes f (inf s) (fin t n d) hx hy = apart-first s t (overflow f) (magnitude f (fin t n d)) (finite-under (record { fits = hy .fits; finite = tt }))
-eq-sizes f (fin s m e) nan hx hy = absurd (hy .number)
-eq-sizes f (fin s m e) (inf t) hx hy = apart-second s t (magnitude f (fin s m e)) (overflow f) (finite-under (record { fits = hx .fits; finite = tt }))
-eq-sizes f (fin s m e) (fin t n d) hx hy = level-alike s t (sizes-alike f s m e t n d (hx .fits) (hy .fits))
+eq-sizes : {f : Format} {x y : Float} → Number f x → Number f y → eq x y ≡ level (negative x) (magnitude f x) (negative y) (magnitude f y)
+unfolding eq negative magnitude
+eq-sizes {f} =
+    by-number₂ (λ x y. eq x y ≡ level (negative x) (magnitude f x) (negative y) (magnitude f y))
+    (λ s t. bound-level s t (overflow f) (pow-pos (low f + suc (emax f))))
+    (λ s t n d h. apart-first s t (overflow f) (magnitude f (fin t n d)) (finite-under h))
+    (λ s m e t h. apart-second s t (magnitude f (fin s m e)) (overflow f) (finite-under h))
+    (λ s m e t n d p q. level-alike s t (sizes-alike f s m e t n d p q))
 
 -- ---- the comparisons as those of whole numbers
 
@@ -172,11 +170,11 @@ less-or-equal a b = go (decLe a b)
 
 pub lt-whole : {f : Format} {x y : Float} → Number f x → Number f y → lt x y ≡ ltb (over f x + under f y) (over f y + under f x)
 unfolding over under
-lt-whole {f} {x} {y} hx hy = lt-sizes f x y hx hy ∙ below-whole (negative x) (magnitude f x) (negative y) (magnitude f y)
+lt-whole {f} {x} {y} hx hy = lt-sizes hx hy ∙ below-whole (negative x) (magnitude f x) (negative y) (magnitude f y)
 
 pub eq-whole : {f : Format} {x y : Float} → Number f x → Number f y → eq x y ≡ eqb (over f x + under f y) (over f y + under f x)
 unfolding over under
-eq-whole {f} {x} {y} hx hy = eq-sizes f x y hx hy ∙ level-whole (negative x) (magnitude f x) (negative y) (magnitude f y)
+eq-whole {f} {x} {y} hx hy = eq-sizes hx hy ∙ level-whole (negative x) (magnitude f x) (negative y) (magnitude f y)
 
 pub le-whole : {f : Format} {x y : Float} → Number f x → Number f y → le x y ≡ leb (over f x + under f y) (over f y + under f x)
 unfolding le

@@ -1,19 +1,18 @@
 -- A product by 1 is the value itself, by bits. A product by a factor in 0..1 is no larger in size, and keeps the order. Assumes nothing.
-use mathlib.Core.Path.{_≡_, refl, sym, ap, ap₂, _∙_, subst, subst₂}
-use Prim.Native.Nat.{ℕ, suc, _+_, _-_, _*_, _/_, _^_, _≤_, _<_}
-use native.Mathlib.Nat.{mul-sub, mul-comm, mul-assoc, mul-one, one-mul, zero-mul, mul-add, add-mul, div-one, mul-le-mul-right, mul-le-mul-left, le-antisymm, le-refl}
+use mathlib.Core.Path.{_≡_, refl, sym, _∙_, subst₂}
+use Prim.Native.Nat.{ℕ, _+_, _-_, _*_, _^_, _≤_}
+use native.Mathlib.Nat.{mul-sub, mul-comm, mul-one, one-mul, zero-mul, mul-add, add-mul, div-one, mul-le-mul-right, mul-le-mul-left, le-antisymm}
 use native.Mathlib.Omega.{arith}
-use mathlib.Core.Bool.{Bool, true, false, not, cond, Bool·beq}
+use mathlib.Core.Bool.{Bool, true, false}
 use lib.Dec.{T}
 use lib.Pow.{pow-pos}
-use lib.IntN.{ℤ, pos}
+use lib.IntN.{pos}
 use lib.Ieee.{Float, nan, inf, fin, Format, binary32, binary64, low, up, down, fits, mul, unlike, ofBits}
 use Rattle.binary32.specs.Arithmetic.{1f}
-use lib.Ieee.Fits.{mul-fits}
 use Rattle.binary32.specs.Whole.{negative, magnitude, over, under}
-use Rattle.binary32.proofs.Magnitude.{Number, Finite, finite-number, same-number}
-use Rattle.binary32.proofs.RoundedSize.{roundedTo, rounded-mono, round-negative, over-positive, under-positive, over-negative, under-negative}
-use Rattle.binary32.proofs.Rounded.{Rounded, by-difference, rounded-order, own-rounding, times-difference}
+use Rattle.binary32.proofs.Magnitude.{Finite, by-finite₂, finite-number, same-number}
+use Rattle.binary32.proofs.RoundedSize.{rounded-mono, round-negative, over-positive, under-positive, over-negative, under-negative}
+use Rattle.binary32.proofs.Rounded.{Rounded, by-difference, rounded-order, own-rounding}
 use Rattle.binary32.proofs.Operations.{mul-rounded}
 
 -- ---- one
@@ -52,11 +51,9 @@ same-size f x y s e = go (negative y) refl
 
 mul-negative : {f : Format} {x y : Float} → Finite f x → Finite f y → negative (mul f x y) ≡ unlike (negative x) (negative y)
 unfolding mul negative
-mul-negative {f} {x = nan} {y} hx hy = absurd (hx .finite)
-mul-negative {f} {x = inf s} {y} hx hy = absurd (hx .finite)
-mul-negative {f} {x = fin s m e} {y = nan} hx hy = absurd (hy .finite)
-mul-negative {f} {x = fin s m e} {y = inf t} hx hy = absurd (hy .finite)
-mul-negative {f} {x = fin s m e} {y = fin t n d} hx hy = round-negative f (unlike s t) (m * up e * (n * up d)) (down e * down d)
+mul-negative {f} =
+    by-finite₂ (λ x y. negative (mul f x y) ≡ unlike (negative x) (negative y))
+    (λ s m e t n d p q. round-negative f (unlike s t) (m * up e * (n * up d)) (down e * down d))
 
 unlike-unit : (t : Bool) → unlike (negative unit) t ≡ t
 unfolding negative
@@ -73,7 +70,7 @@ one-times-finite {f} {x} h =
     let s : negative z ≡ negative x = mul-negative u h ∙ unlike-unit (negative x) in
     let lo : over f z + under f x ≤ over f x + under f z = rounded-order r o (pow-pos (low f)) (pow-pos 0) (omega (arith, mul-comm L (over f x), mul-comm L (under f x))) in
     let hi : over f x + under f z ≤ over f z + under f x = rounded-order o r (pow-pos 0) (pow-pos (low f)) (omega (arith, mul-comm L (over f x), mul-comm L (under f x))) in
-    same-number f z x (r .number) (finite-number h) s (same-size f z x s (le-antisymm lo hi))
+    same-number (r .number) (finite-number h) s (same-size f z x s (le-antisymm lo hi))
 
 pub one-times : (f : Format) (x : Float) → T (fits f x) → mul f unit x ≡ x
 unfolding mul

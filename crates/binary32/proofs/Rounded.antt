@@ -1,18 +1,17 @@
 -- `Rounded f z p n c` says that z is (p - n) / c units rounded, a zero's sign aside: one statement for both signs, since one of the two truncated
 -- differences is 0. Three laws carry what stands above: rounding keeps the order, a value of the format is its own rounding, and
 -- two roundings of one fraction are one number. Assumes nothing.
-use mathlib.Core.Path.{_≡_, refl, sym, ap, ap₂, _∙_, subst, subst₂}
-use Prim.Native.Nat.{ℕ, zero, suc, _+_, _-_, _*_, _^_, _≤_, _<_, zero-le}
-use native.Mathlib.Nat.{mul-sub, mul-comm, mul-one, one-mul, zero-mul, mul-pos, sub-zero, zero-sub, le-trans, le-of-eq, add-comm}
+use mathlib.Core.Path.{_≡_, refl, sym, ap, ap₂, _∙_, subst₂}
+use Prim.Native.Nat.{ℕ, _+_, _-_, _*_, _^_, _≤_, _<_}
+use native.Mathlib.Nat.{mul-sub, mul-comm, sub-zero, zero-sub}
 use native.Mathlib.Omega.{arith}
-use mathlib.Core.Bool.{Bool, true, false, not, cond}
-use borrow.Author.Tests.{eq-eqb, le-leb, leb-true}
-use lib.Dec.{T}
+use mathlib.Core.Bool.{Bool, true, false}
+use borrow.Author.Tests.{eq-eqb}
 use lib.Pow.{pow-pos}
-use lib.Ieee.{Float, Format, low, isNan, round, eq, le}
-use Rattle.binary32.specs.Whole.{negative, magnitude, over, under}
+use lib.Ieee.{Float, Format, low, round, eq}
+use Rattle.binary32.specs.Whole.{negative, over, under}
 use Rattle.binary32.proofs.Magnitude.{Number, Finite, finite-number}
-use Rattle.binary32.proofs.Order.{eq-whole, le-whole}
+use Rattle.binary32.proofs.Order.{eq-whole}
 use Rattle.binary32.proofs.RoundedSize.{roundedTo, rounded-nothing, rounded-same, rounded-mono, rounded-own, round-number, round-negative, round-size, over-positive, under-positive, over-negative, under-negative}
 
 pub record Rounded (f : Format) (z : Float) (p n c : ℕ) : Type 0 where

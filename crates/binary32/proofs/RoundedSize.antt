@@ -1,25 +1,24 @@
 -- Rounding over whole numbers, the size alone: `roundedTo f a c` is the size, in units, of what a / c units round to. It grows with the fraction,
 -- nothing rounds to nothing, equal fractions round alike, and the size of a value of the format is its own rounding. Assumes nothing.
-use mathlib.Core.Path.{_≡_, refl, sym, ap, ap₂, _∙_, subst, subst₂}
-use Prim.Native.Nat.{ℕ, zero, suc, _+_, _-_, _*_, _/_, _^_, _≤_, _<_, zero-le}
-use native.Mathlib.Nat.{mul-assoc, mul-comm, mul-left-comm, mul-one, one-mul, zero-mul, mul-pos, add-zero, zero-add, sub-zero, zero-sub, le-refl, le-of-eq, le-of-lt, le-antisymm, mul-le-mul-right}
+use mathlib.Core.Path.{_≡_, refl, sym, ap, _∙_, subst, subst₂}
+use Prim.Native.Nat.{ℕ, zero, suc, _+_, _*_, _/_, _^_, _≤_, _<_}
+use native.Mathlib.Nat.{mul-assoc, one-mul, zero-mul, mul-pos, mul-le-mul-right}
 use native.Mathlib.Omega.{arith}
 use mathlib.Core.Bool.{Bool, true, false, not, cond}
-use borrow.Author.Tests.{leb-true, lt-ltb, le-ltb, eq-eqb}
-use lib.Dec.{T, ltb, ltb→lt, nltb→le}
+use borrow.Author.Tests.{leb-true}
+use lib.Dec.{T, ltb}
 use lib.Pow.{pow-pos}
-use lib.IntN.{ℤ, pos, negsuc, subℕ}
-use lib.Ieee.{Float, nan, inf, fin, Format, prec, emax, low, up, down, fits, isNan, odd, units, round, eq, le}
+use lib.IntN.{ℤ}
+use lib.Ieee.{Float, inf, fin, Format, prec, low, fits, isNan, odd, units, round, le}
 use lib.Ieee.Bits.{is-true}
 use lib.Ieee.Exact.{HasValue, odd-sign, round-exact}
-use lib.Ieee.Fits.{round-is, round-fits, down-pos}
+use lib.Ieee.Fits.{round-is, round-fits}
 use lib.Ieee.Order.{drop, kept, round-mono}
 use lib.Ieee.Scale.{grid, overflow, finite, round-same}
 use Rattle.binary32.specs.Whole.{negative, magnitude, over, under}
-use Rattle.binary32.specs.Rounding.{rounding}
 use Rattle.binary32.proofs.Tests.{round-nothing}
-use Rattle.binary32.proofs.Magnitude.{Number, Finite, finite-number, held, multiple, magnitude-of, magnitude-shifted, finite-under}
-use Rattle.binary32.proofs.Order.{le-whole, eq-whole}
+use Rattle.binary32.proofs.Magnitude.{Number, Finite, by-finite, held, multiple, magnitude-of, magnitude-shifted, finite-under}
+use Rattle.binary32.proofs.Order.{le-whole}
 
 -- ---- what `round` gives: a number with the sign that it was handed, of a size that does not turn on that sign
 
@@ -127,6 +126,4 @@ own-finite f s m e h =
     (ap (λ (z : ℕ). z * L) shifted ∙ ap (λ (z : ℕ). m * 2 ^ k .shift * z) (sym (one-mul L)))))
 
 pub rounded-own : {f : Format} {x : Float} → Finite f x → roundedTo f (magnitude f x) 1 ≡ magnitude f x
-rounded-own {f} {x = nan} h = absurd (h .finite)
-rounded-own {f} {x = inf s} h = absurd (h .finite)
-rounded-own {f} {x = fin s m e} h = own-finite f s m e (h .fits)
+rounded-own {f} = by-finite (λ x. roundedTo f (magnitude f x) 1 ≡ magnitude f x) (own-finite f)

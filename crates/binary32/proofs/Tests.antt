@@ -4,7 +4,7 @@ use mathlib.Core.Path.{_≡_, refl, sym, ap, _∙_}
 use mathlib.Core.Bool.{Bool, true, false, not}
 use Prim.Native.Nat.{ℕ, _*_, _<_}
 use native.Mathlib.Nat.{mul-pos, sub-self, lt-irrefl, zero-mul}
-use lib.Dec.{T, ltb, eqb, eqb-refl, lit<, not-T, ltb→lt}
+use lib.Dec.{ltb, eqb, eqb-refl, lit<, not-T, ltb→lt}
 use lib.IntN.{pos}
 use lib.Ieee.{Float, nan, inf, fin, Format, binary32, binary64, down, up, round, neg, sub, sum, eq, ne, isNan, ofBits}
 use lib.Ieee.Bits.{is-true, is-false}

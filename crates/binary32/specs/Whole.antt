@@ -1,6 +1,6 @@
 -- A number of a format as a whole number of the format's smallest value: 2 ^ -149 at binary32, where every finite number is such a multiple
 -- (document 01, its first paragraph; IEEE 754-2019, 3.3). Definitions only.
-use Prim.Native.Nat.{ℕ, suc, _*_, _/_, _^_}
+use Prim.Native.Nat.{ℕ, _*_, _/_, _^_}
 use mathlib.Core.Bool.{Bool, false, cond}
 use lib.IntN.{ℤ, subℕ}
 use lib.Ieee.{Float, nan, inf, fin, Format, up, down, low}

@@ -1,14 +1,13 @@
 -- The fit scale lies in 0..1, whatever the bases, the deltas and the floor are: the walk starts at 1 and only ever takes something smaller, which is no
 -- NaN since it was found smaller, and its end turns what is under 0 or not finite into +0. Assumes nothing.
-use mathlib.Core.Path.{_≡_, refl, sym, ap, _∙_, subst}
+use mathlib.Core.Path.{_≡_, refl, sym, _∙_}
 use mathlib.Core.Bool.{Bool, true, false, not, _&&_, _||_, cond, false≢true}
 use mathlib.Core.List.{List, [], _∷_}
-use Prim.Native.Nat.{ℕ, _+_, _≤_, _<_}
+use Prim.Native.Nat.{_+_, _≤_, _<_}
 use native.Mathlib.Omega.{arith}
 use borrow.Author.Tests.{ltb-true, ltb-false, le-leb}
-use lib.Dec.{T, leb, ltb}
+use lib.Dec.{T}
 use lib.Ieee.{Float, nan, inf, fin, binary32, fits, isNan, lt, le, eq, neg, ofBits}
-use lib.Ieee.Bits.{ofBits-fits}
 use lib.Ieee.Fits.{div-fits, cond-fits}
 use lib.Ieee.Scale.{finite}
 use Rattle.binary32.specs.Arithmetic.{_-f_, _/f_, 0f, 1f, small}
@@ -16,6 +15,7 @@ use Rattle.binary32.specs.Whole.{over, under}
 use Rattle.binary32.specs.Range.{Between}
 use Rattle.binary32.proofs.Magnitude.{Number}
 use Rattle.binary32.proofs.Order.{lt-whole, le-whole}
+use Rattle.binary32.proofs.Between.{zero-number, one-number}
 use Rattle.fit.specs.Fit.{limits, motorLimit, tightened, walk, settled, fitScale}
 
 -- ---- a scale that is held: a number, at most 1
@@ -24,16 +24,8 @@ pub record Held (s : Float) : Type 0 where
   pub number : Number binary32 s
   pub most : over binary32 s + under binary32 1f ≤ over binary32 1f + under binary32 s
 
-one-number : Number binary32 1f
-unfolding isNan ofBits
-one-number = record { fits = ofBits-fits binary32 0x3f80_0000; number = tt }
-
 one-held : Held 1f
 one-held = record { number = one-number; most = omega arith }
-
-zero-number : Number binary32 0f
-unfolding isNan ofBits
-zero-number = record { fits = ofBits-fits binary32 0; number = tt }
 
 -- what is smaller than something is a number
 smaller-number : (x y : Float) → lt x y ≡ true → T (not (isNan x))

@@ -1,23 +1,20 @@
 -- The fit scale is exactly 1 where each base plus its delta, taken exactly, lies in floor..1: no motor's limit is then under 1, so that the walk never
 -- leaves the 1 that it started from. Nothing is asked of a base alone. Assumes nothing.
-use mathlib.Core.Path.{_≡_, refl, sym, ap, _∙_, subst}
-use mathlib.Core.Bool.{Bool, true, false, not, _&&_, _||_, cond}
+use mathlib.Core.Path.{_≡_, refl, sym, ap, _∙_}
+use mathlib.Core.Bool.{Bool, true, false, _&&_, _||_, cond}
 use mathlib.Core.List.{List, [], _∷_}
-use Prim.Native.Nat.{ℕ, zero, suc, _+_, _≤_, _<_}
+use Prim.Native.Nat.{ℕ, suc, _+_, _≤_, _<_}
 use native.Mathlib.Omega.{arith}
 use borrow.Author.Tests.{ltb-true}
 use lib.Dec.{T}
-use lib.IntN.{ℤ}
 use lib.ListN.{getD}
-use lib.Signed.{_≤ℤ_}
-use lib.Ieee.{Float, nan, binary32, fits, isNan, lt, neg, ofBits}
+use lib.Ieee.{Float, nan, binary32, fits, lt, neg, ofBits}
 use lib.Ieee.Bits.{ofBits-fits}
-use lib.Ieee.Fits.{neg-fits}
 use lib.Ieee.Scale.{finite}
-use Rattle.binary32.specs.Arithmetic.{_-f_, _/f_, 0f, 1f, small}
+use Rattle.binary32.specs.Arithmetic.{_-f_, _/f_, 1f, small}
 use Rattle.binary32.specs.Whole.{negative, over, under, wholeOf}
 use Rattle.binary32.specs.Range.{exactSum, SumWithin}
-use Rattle.binary32.proofs.Magnitude.{Number, Finite, finite-number}
+use Rattle.binary32.proofs.Magnitude.{Finite, finite-number}
 use Rattle.binary32.proofs.Order.{lt-whole}
 use Rattle.binary32.proofs.Integers.{Difference, whole-difference, sum-of, order-of}
 use Rattle.binary32.proofs.Operations.{neg-finite, over-neg, under-neg}

@@ -3,3 +3,4 @@ pub mod Walk
 pub mod Bounded
 pub mod Room
 pub mod Fitting
+pub mod Determined

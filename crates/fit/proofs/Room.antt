@@ -1,13 +1,12 @@
 -- Enough room is no limit: where a - b, taken exactly, is at least d, and d is above zero, the quotient of the rounded difference by d is not under 1.
 -- Rounding keeps the order twice: a - b rounds to no less than d, which is its own rounding, and the quotient, at least 1, to no less than 1.
 -- In either format. Assumes nothing.
-use mathlib.Core.Path.{_≡_, refl, sym, ap, _∙_, subst}
-use mathlib.Core.Bool.{Bool, true, false, not, cond, true≢false}
+use mathlib.Core.Path.{_≡_, refl, _∙_, subst}
+use mathlib.Core.Bool.{Bool, true, false, true≢false}
 use Prim.Native.Nat.{ℕ, _+_, _*_, _^_, _≤_, _<_}
-use native.Mathlib.Nat.{mul-one, one-mul, zero-mul, mul-comm, mul-le-mul-right, lt-irrefl}
+use native.Mathlib.Nat.{mul-one, zero-mul, mul-comm, mul-le-mul-right}
 use native.Mathlib.Omega.{arith}
 use borrow.Author.Tests.{le-ltb}
-use lib.Dec.{T, ltb}
 use lib.Pow.{pow-pos}
 use lib.Ieee.{Float, nan, inf, fin, Format, low, isNan, lt, sub, div}
 use lib.Ieee.Scale.{finite}

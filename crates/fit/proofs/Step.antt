@@ -1,5 +1,5 @@
 -- One step of the walk, and its end, as the code computes them: the limit as one quotient for both signs of a delta, and a treated scale. Assumes nothing.
-use mathlib.Core.Path.{_≡_, refl, sym, ap, _∙_}
+use mathlib.Core.Path.{_≡_, refl}
 use mathlib.Core.Bool.{Bool, true, false, not, _&&_, _||_, cond}
 use lib.Ieee.{Float, lt, neg}
 use lib.Ieee.Scale.{finite}

@@ -1,5 +1,7 @@
+-- `fit::scale` meets its contract. The loop's invariant: what is left to walk, from the scale held, gives the whole walk. That the answer lies in 0..1, and is 1
+-- where the command fits, are laws about the definition. An element's offset, 4 bytes each, fits a `usize` since a slice's bytes do. Assumes nothing.
 use mathlib.Core.Path.{_≡_, refl, sym, ap, _∙_}
-use Prim.Native.Nat.{ℕ, _+_, _-_, _*_, _<_, _≤_, min}
+use Prim.Native.Nat.{_+_, _-_, _≤_, min}
 use native.Mathlib.Omega.{arith}
 use lib.ListN.{length, drop}
 use lib.Ieee.{Float}
@@ -12,8 +14,6 @@ use Rattle.fit.proofs.Bounded.{scale-between}
 use Rattle.fit.proofs.Fitting.{scale-fitting}
 use Rattle.fit.proofs.scale.Statement.{statement}
 use Rattle.fit.proofs.scale.Tie as tie
-use Rattle.fit.proofs.scale.Reads as reads
-use Rattle.fit.proofs.scale.Lts as lts
 
 -- what is left to walk, from the scale held, gives the whole walk
 abbrev Inv-loop : tie.InvT-loop

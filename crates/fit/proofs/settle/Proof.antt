@@ -1,5 +1,5 @@
+-- `fit::settle` meets its contract: a treated scale, or +0 where it is negative. Assumes nothing.
 use borrow.Author.Needs.{needs}
-use mathlib.Core.Path.{_∙_}
 use Rattle.fit.proofs.Step.{treated-end}
 use Rattle.fit.proofs.settle.Statement.{statement}
 use Rattle.fit.proofs.settle.Tie as tie

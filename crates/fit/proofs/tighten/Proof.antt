@@ -1,3 +1,4 @@
+-- `fit::tighten` meets its contract: the four choices give the one quotient of `one-quotient`, which is the definition's step. Assumes nothing.
 use borrow.Author.Needs.{needs}
 use Rattle.fit.proofs.Step.{one-quotient}
 use Rattle.fit.proofs.tighten.Statement.{statement}

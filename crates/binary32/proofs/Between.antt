@@ -1,0 +1,74 @@
+-- A number of binary32 that lies in 0..1 is a factor by which a product gets no larger. Assumes nothing.
+use mathlib.Core.Path.{_≡_, refl, sym, ap, _∙_}
+use mathlib.Core.Bool.{Bool, true, false, not, false≢true}
+use Prim.Native.Nat.{suc, _+_, _^_, _≤_, _<_}
+use native.Mathlib.Nat.{not-le-of-lt, le-of-eq, le-trans}
+use native.Mathlib.Omega.{arith}
+use borrow.Author.Tests.{leb-true}
+use lib.Dec.{T}
+use lib.Pow.{pow-pos, pow-lt}
+use lib.Ieee.{Float, nan, inf, fin, Format, binary32, low, emax, fits, isNan, le, ofBits}
+use lib.Ieee.Bits.{ofBits-fits}
+use lib.Ieee.Scale.{overflow, finite}
+use Rattle.binary32.specs.Arithmetic.{0f, 1f}
+use Rattle.binary32.specs.Whole.{negative, magnitude, over, under}
+use Rattle.binary32.specs.Range.{Between}
+use Rattle.binary32.proofs.Magnitude.{Number}
+use Rattle.binary32.proofs.Order.{le-whole}
+use Rattle.binary32.proofs.RoundedSize.{over-negative, under-positive}
+use Rattle.binary32.proofs.Products.{Factor, one-is-unit, over-unit}
+
+-- ---- the two ends
+
+pub zero-number : Number binary32 0f
+unfolding isNan ofBits
+zero-number = record { fits = ofBits-fits binary32 0; number = tt }
+
+pub one-number : Number binary32 1f
+unfolding isNan ofBits
+one-number = record { fits = ofBits-fits binary32 0x3f80_0000; number = tt }
+
+zero-over : over binary32 0f ≡ 0
+unfolding over negative magnitude ofBits
+zero-over = refl
+
+zero-under : under binary32 0f ≡ 0
+unfolding under negative ofBits
+zero-under = refl
+
+-- ---- what is compared and found in order is a number
+
+le-number : (x y : Float) → le x y ≡ true → T (not (isNan x))
+unfolding le isNan
+le-number nan y h = absurd (false≢true h)
+le-number (inf s) y h = tt
+le-number (fin s m e) y h = tt
+
+-- ---- what counts no more above zero than one does is finite
+
+above-one : (f : Format) → 2 ^ low f < overflow f
+above-one f = pow-lt (omega arith)
+
+not-negative : (f : Format) (s : Float) → under f s ≤ over f s → under f s ≡ 0
+not-negative f s h = go (negative s) refl
+  where
+    go : (b : Bool) → negative s ≡ b → under f s ≡ 0
+    go false n = under-positive f s n
+    go true n = omega (arith, over-negative f s n)
+
+finite-of : (f : Format) (s : Float) → Number f s → under f s ≡ 0 → over f s ≤ 2 ^ low f → T (finite s)
+unfolding isNan over under negative magnitude
+finite-of f nan n u h = absurd (n .number)
+finite-of f (inf true) n u h = absurd (not-le-of-lt (pow-pos (low f + suc (emax f))) (le-of-eq u))
+finite-of f (inf false) n u h = absurd (not-le-of-lt (above-one f) h)
+finite-of f (fin s m e) n u h = tt
+
+pub factor : {s : Float} → T (fits binary32 s) → Between 0f 1f s → Factor binary32 s
+factor {s} h b =
+    let n : Number binary32 s = record { fits = h; number = le-number s 1f (b .to) } in
+    let low-end : over binary32 0f + under binary32 s ≤ over binary32 s + under binary32 0f = leb-true _ _ (sym (le-whole zero-number n) ∙ b .from) in
+    let high-end : over binary32 s + under binary32 1f ≤ over binary32 1f + under binary32 s = leb-true _ _ (sym (le-whole n one-number) ∙ b .to) in
+    let from : under binary32 s ≡ 0 = not-negative binary32 s (omega (arith, zero-over, zero-under)) in
+    let to : over binary32 s ≤ over binary32 1f = omega arith in
+    let most : over binary32 s ≤ 2 ^ low binary32 = le-trans to (le-of-eq (ap (over binary32) one-is-unit ∙ over-unit binary32)) in
+    record { number = record { fits = h; finite = finite-of binary32 s n from most }; from = from; to = most }
