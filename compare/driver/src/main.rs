@@ -2,10 +2,13 @@
 //!
 //!   --quick   the first 1024th of every row
 //!   --wrong   functions that are wrong on purpose, in the place of ours
+//!   --findings   the findings of docs/DIFFERENCES.md, on the Rust alone
 //!
-//! Exit status 0: no answer differs; with --wrong: each wrong function was noticed.
+//! Exit status 0: no answer differs; with --wrong: each wrong function was noticed; with
+//! --findings: each answer is the stated one.
 
 mod compare;
+mod findings;
 mod inputs;
 mod ours;
 mod table;
@@ -16,18 +19,21 @@ use std::process::ExitCode;
 use compare::{Row, Tally};
 
 fn main() -> ExitCode {
-    let (mut quick, mut wrong) = (false, false);
+    let (mut quick, mut wrong, mut findings) = (false, false, false);
     for word in std::env::args().skip(1) {
         match word.as_str() {
             "--quick" => quick = true,
             "--wrong" => wrong = true,
+            "--findings" => findings = true,
             _ => {
                 eprintln!("compare: unknown word {word}");
                 return ExitCode::from(2);
             }
         }
     }
-    let good = if wrong {
+    let good = if findings {
+        run_findings()
+    } else if wrong {
         notice_all(&wrong::wrong_table(), quick)
     } else {
         compare_all(&table::table(), quick)
@@ -62,6 +68,21 @@ fn notice_all(rows: &[Row], quick: bool) -> bool {
     }
     println!("{} wrong functions, {noticed} noticed", rows.len());
     noticed == rows.len()
+}
+
+/// Runs every finding, and says whether each answer is the stated one.
+fn run_findings() -> bool {
+    let all = findings::findings();
+    let mut differ = 0;
+    for f in &all {
+        println!("{} {}: {}", f.label, f.input, f.found);
+        if f.found != f.stated {
+            println!("    stated {}", f.stated);
+            differ += 1;
+        }
+    }
+    println!("{} findings run, {differ} differ", all.len());
+    differ == 0
 }
 
 /// How many cases of a row are run.
