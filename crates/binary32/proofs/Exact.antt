@@ -3,13 +3,13 @@
 -- the exact result, a fraction of the operands' whole numbers. A quotient's numerator and denominator are both multiplied by the divisor, so that
 -- the denominator is above zero. Assumes nothing.
 use mathlib.Core.Path.{_≡_, refl, sym, ap, _∙_}
-use Prim.Native.Nat.{ℕ, _+_, _-_, _*_, _^_, _≤_, _<_}
+use Prim.Native.Nat.{ℕ, _+_, _-_, _*_, _^_, _<_}
 use native.Mathlib.Nat.{mul-pos, mul-assoc, mul-right-comm, mul-zero, add-zero, zero-add}
 use native.Mathlib.Omega.{arith}
 use mathlib.Core.Bool.{Bool, true, false}
 use borrow.Author.Tests.{eqb-true, le-leb}
 use lib.Pow.{pow-pos}
-use lib.IntN.{ℤ, pos, negℤ, natAbs, _+ℤ_, _-ℤ_, _*ℤ_}
+use lib.IntN.{ℤ, pos, natAbs, _+ℤ_, _-ℤ_, _*ℤ_}
 use lib.Signed.{_≤ℤ_, ltZ, leZ}
 use lib.Ieee.{Float, Format, low, add, sub, mul, div, lt, le, eq}
 use Rattle.binary32.specs.Whole.{negative, magnitude, over, under, wholeOf}
@@ -18,61 +18,46 @@ use Rattle.binary32.proofs.Magnitude.{Number, Finite}
 use Rattle.binary32.proofs.Order.{lt-whole, le-whole, eq-whole}
 use Rattle.binary32.proofs.RoundedSize.{over-positive, under-positive, over-negative, under-negative}
 use Rattle.binary32.proofs.Rounded.{Rounded, by-fraction, rounded-order, own-rounding}
-use Rattle.binary32.proofs.Integers.{Difference, plus, minus, own-pair, whole-difference, order-of, lt-test, le-test, same-integer, rounding-rounded, sum-of, negated-of, product-of, size-of, is-rounding}
+use Rattle.binary32.proofs.Integers.{Difference, own-pair, whole-difference, order-of, lt-test, le-test, same-integer, rounding-rounded, sum-of, negated-of, product-of, size-of, is-rounding}
 use Rattle.binary32.proofs.Operations.{add-rounded, sub-rounded, mul-rounded, div-rounded}
 
 -- ---- the comparisons are those of the whole numbers, and two numbers are equal where their whole numbers are
 
 pub lt-exact : {f : Format} {x y : Float} → Number f x → Number f y → lt x y ≡ ltZ (wholeOf f x) (wholeOf f y)
-lt-exact {f} {x} {y} hx hy =
-    lt-whole hx hy ∙ lt-test (wholeOf f x) (wholeOf f y) (over f x) (under f x) (over f y) (under f y) (whole-difference f x) (whole-difference f y)
+lt-exact {f} {x} {y} hx hy = lt-whole hx hy ∙ lt-test (whole-difference f x) (whole-difference f y)
 
 pub le-exact : {f : Format} {x y : Float} → Number f x → Number f y → le x y ≡ leZ (wholeOf f x) (wholeOf f y)
-le-exact {f} {x} {y} hx hy =
-    le-whole hx hy ∙ le-test (wholeOf f x) (wholeOf f y) (over f x) (under f x) (over f y) (under f y) (whole-difference f x) (whole-difference f y)
+le-exact {f} {x} {y} hx hy = le-whole hx hy ∙ le-test (whole-difference f x) (whole-difference f y)
 
 pub eq-exact : {f : Format} {x y : Float} → Number f x → Number f y → eq x y ≡ true → wholeOf f x ≡ wholeOf f y
 eq-exact {f} {x} {y} hx hy e =
-    same-integer (wholeOf f x) (wholeOf f y) (over f x) (under f x) (over f y) (under f y) (whole-difference f x) (whole-difference f y)
-    (eqb-true (over f x + under f y) (over f y + under f x) (sym (eq-whole hx hy) ∙ e))
+    same-integer (whole-difference f x) (whole-difference f y) (eqb-true (over f x + under f y) (over f y + under f x) (sym (eq-whole hx hy) ∙ e))
 
 -- ---- rounding keeps the order, of fractions multiplied out, and a value of the format is its own rounding
 
-scaled : (v : ℤ) (k : ℕ) → Difference (v *ℤ pos k) (plus v * k + minus v * 0) (plus v * 0 + minus v * k)
-scaled v k = product-of v (pos k) (plus v) (minus v) k 0 (own-pair v) (sym (add-zero k))
+times : {z : ℤ} {p n : ℕ} → Difference z p n → (k : ℕ) → Difference (z *ℤ pos k) (p * k + n * 0) (p * 0 + n * k)
+times h k = product-of h (record { is = sym (add-zero k) })
 
 pub rounding-order : (f : Format) (z w : ℤ) (c d : ℕ) → 0 < c → 0 < d → (z *ℤ pos d) ≤ℤ (w *ℤ pos c) → le (rounding f z c) (rounding f w d) ≡ true
 rounding-order f z w c d C D h =
-    let p = plus z in
-    let n = minus z in
-    let q = plus w in
-    let m = minus w in
-    let in-order : p * d + n * 0 + (q * 0 + m * c) ≤ q * c + m * 0 + (p * 0 + n * d) =
-    order-of (z *ℤ pos d) (w *ℤ pos c) (p * d + n * 0) (p * 0 + n * d) (q * c + m * 0) (q * 0 + m * c) (scaled z d) (scaled w c) h in
-    let first = rounding-rounded f z p n c (own-pair z) C in
-    let second = rounding-rounded f w q m d (own-pair w) D in
+    let in-order = order-of (times (own-pair z) d) (times (own-pair w) c) h in
+    let first = rounding-rounded f c (own-pair z) C in
+    let second = rounding-rounded f d (own-pair w) D in
     le-whole (first .number) (second .number) ∙ le-leb _ _ (rounded-order first second C D (omega arith))
 
 pub rounding-own : {f : Format} {x : Float} → Finite f x → eq x (rounding f (wholeOf f x) 1) ≡ true
-rounding-own {f} {x} h = is-rounding (own-rounding h) (wholeOf f x) (whole-difference f x) (pow-pos 0)
+rounding-own {f} {x} h = is-rounding (own-rounding h) (whole-difference f x) (pow-pos 0)
 
 -- ---- sums, differences, products
 
 pub add-exact : {f : Format} {x y : Float} → Finite f x → Finite f y → eq (add f x y) (rounding f (wholeOf f x +ℤ wholeOf f y) 1) ≡ true
-add-exact {f} {x} {y} hx hy =
-    is-rounding (add-rounded hx hy) (wholeOf f x +ℤ wholeOf f y)
-    (sum-of (wholeOf f x) (wholeOf f y) (over f x) (under f x) (over f y) (under f y) (whole-difference f x) (whole-difference f y)) (pow-pos 0)
+add-exact {f} {x} {y} hx hy = is-rounding (add-rounded hx hy) (sum-of (whole-difference f x) (whole-difference f y)) (pow-pos 0)
 
 pub sub-exact : {f : Format} {x y : Float} → Finite f x → Finite f y → eq (sub f x y) (rounding f (wholeOf f x -ℤ wholeOf f y) 1) ≡ true
-sub-exact {f} {x} {y} hx hy =
-    is-rounding (sub-rounded hx hy) (wholeOf f x -ℤ wholeOf f y)
-    (sum-of (wholeOf f x) (negℤ (wholeOf f y)) (over f x) (under f x) (under f y) (over f y) (whole-difference f x)
-    (negated-of (wholeOf f y) (over f y) (under f y) (whole-difference f y))) (pow-pos 0)
+sub-exact {f} {x} {y} hx hy = is-rounding (sub-rounded hx hy) (sum-of (whole-difference f x) (negated-of (whole-difference f y))) (pow-pos 0)
 
 pub mul-exact : {f : Format} {x y : Float} → Finite f x → Finite f y → eq (mul f x y) (rounding f (wholeOf f x *ℤ wholeOf f y) (2 ^ low f)) ≡ true
-mul-exact {f} {x} {y} hx hy =
-    is-rounding (mul-rounded hx hy) (wholeOf f x *ℤ wholeOf f y)
-    (product-of (wholeOf f x) (wholeOf f y) (over f x) (under f x) (over f y) (under f y) (whole-difference f x) (whole-difference f y)) (pow-pos (low f))
+mul-exact {f} {x} {y} hx hy = is-rounding (mul-rounded hx hy) (product-of (whole-difference f x) (whole-difference f y)) (pow-pos (low f))
 
 -- ---- quotients
 
@@ -86,7 +71,7 @@ whole-size : (f : Format) (x : Float) → natAbs (wholeOf f x) ≡ magnitude f x
 whole-size f x = go (negative x) refl
   where
     size : natAbs (wholeOf f x) ≡ (over f x - under f x) + (under f x - over f x)
-    size = size-of (wholeOf f x) (over f x) (under f x) (whole-difference f x)
+    size = size-of (whole-difference f x)
 
     go : (s : Bool) → negative x ≡ s → natAbs (wholeOf f x) ≡ magnitude f x
     go false s = omega (arith, size, over-positive f x s, under-positive f x s)
@@ -103,10 +88,7 @@ module _ {f : Format} {x y : Float} (hx : Finite f x) (hy : Finite f y) (h : 0 <
       let N = over f x * under f y + under f x * over f y in
       let two = mul-pos h h in
       is-rounding (by-fraction r (P * L + N * 0) (P * 0 + N * L) (magnitude f y * magnitude f y) h two (widened a b (magnitude f y) L P N p n))
-      (wholeOf f x *ℤ wholeOf f y *ℤ pos L)
-      (product-of (wholeOf f x *ℤ wholeOf f y) (pos L) P N L 0
-      (product-of (wholeOf f x) (wholeOf f y) (over f x) (under f x) (over f y) (under f y) (whole-difference f x) (whole-difference f y)) (sym (add-zero L)))
-      two
+      (times (product-of (whole-difference f x) (whole-difference f y)) L) two
 
   by-sign : (s : Bool) → negative y ≡ s → eq (div f x y) (rounding f (wholeOf f x *ℤ wholeOf f y *ℤ pos (2 ^ low f)) (magnitude f y * magnitude f y)) ≡ true
   by-sign false s = quotient (over f x) (under f x) (simp s at (div-rounded hx hy h)) (simp (over-positive f y s, under-positive f y s, mul-zero, add-zero)) (simp (over-positive f y s, under-positive f y s, mul-zero, zero-add))

@@ -8,4 +8,4 @@ pub mod Operations
 pub mod Products
 pub mod Exact
 pub mod Absolute
-pub mod Between
+pub mod Range

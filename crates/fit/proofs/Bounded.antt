@@ -15,7 +15,7 @@ use Rattle.binary32.specs.Whole.{over, under}
 use Rattle.binary32.specs.Range.{Between}
 use Rattle.binary32.proofs.Magnitude.{Number}
 use Rattle.binary32.proofs.Order.{lt-whole, le-whole}
-use Rattle.binary32.proofs.Between.{zero-number, one-number}
+use Rattle.binary32.proofs.Range.{zero-number, one-number}
 use Rattle.fit.specs.Fit.{limits, motorLimit, tightened, walk, settled, fitScale}
 
 -- ---- a scale that is held: a number, at most 1

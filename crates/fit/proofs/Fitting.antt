@@ -3,7 +3,7 @@
 use mathlib.Core.Path.{_≡_, refl, sym, ap, _∙_}
 use mathlib.Core.Bool.{Bool, true, false, _&&_, _||_, cond}
 use mathlib.Core.List.{List, [], _∷_}
-use Prim.Native.Nat.{ℕ, suc, _+_, _≤_, _<_}
+use Prim.Native.Nat.{ℕ, suc, _+_, _<_}
 use native.Mathlib.Omega.{arith}
 use borrow.Author.Tests.{ltb-true}
 use lib.Dec.{T}
@@ -12,13 +12,13 @@ use lib.Ieee.{Float, nan, binary32, fits, lt, neg, ofBits}
 use lib.Ieee.Bits.{ofBits-fits}
 use lib.Ieee.Scale.{finite}
 use Rattle.binary32.specs.Arithmetic.{_-f_, _/f_, 1f, small}
-use Rattle.binary32.specs.Whole.{negative, over, under, wholeOf}
-use Rattle.binary32.specs.Range.{exactSum, SumWithin}
+use Rattle.binary32.specs.Whole.{negative, over, under}
+use Rattle.binary32.specs.Range.{SumWithin}
 use Rattle.binary32.proofs.Magnitude.{Finite, finite-number}
 use Rattle.binary32.proofs.Order.{lt-whole}
-use Rattle.binary32.proofs.Integers.{Difference, whole-difference, sum-of, order-of}
 use Rattle.binary32.proofs.Operations.{neg-finite, over-neg, under-neg}
 use Rattle.binary32.proofs.Products.{one-is-unit}
+use Rattle.binary32.proofs.Range.{one-finite, sum-at-least, sum-at-most}
 use Rattle.fit.specs.Fit.{limits, motorLimit, tightened, walk, settled, fitScale, EachMotor}
 use Rattle.fit.proofs.Room.{Positive, positive, enough-room}
 
@@ -27,10 +27,6 @@ use Rattle.fit.proofs.Room.{Positive, positive, enough-room}
 small-finite : Finite binary32 small
 unfolding ofBits
 small-finite = record { fits = ofBits-fits binary32 0x3586_37bd; finite = tt }
-
-one-finite : Finite binary32 1f
-unfolding ofBits
-one-finite = record { fits = ofBits-fits binary32 0x3f80_0000; finite = tt }
 
 small-plus : under binary32 small ≡ 0
 unfolding under negative ofBits
@@ -48,19 +44,6 @@ under-small {d} h e =
     let m = finite-number (neg-finite small-finite) in
     let less : over binary32 d + under binary32 (neg small) < over binary32 (neg small) + under binary32 d = ltb-true _ _ (sym (lt-whole n m) ∙ e) in
     positive (finite-number (neg-finite h)) (omega (arith, small-plus, over-neg binary32 small, under-neg binary32 small, over-neg binary32 d))
-
--- ---- the exact sum, as natural numbers
-
-module _ {lo hi b d : Float} (w : SumWithin lo hi b d) where
-  sum-difference : Difference (exactSum b d) (over binary32 b + over binary32 d) (under binary32 b + under binary32 d)
-  unfolding exactSum
-  sum-difference = sum-of (wholeOf binary32 b) (wholeOf binary32 d) (over binary32 b) (under binary32 b) (over binary32 d) (under binary32 d) (whole-difference binary32 b) (whole-difference binary32 d)
-
-  pub at-least : over binary32 lo + (under binary32 b + under binary32 d) ≤ over binary32 b + over binary32 d + under binary32 lo
-  at-least = order-of (wholeOf binary32 lo) (exactSum b d) _ _ _ _ (whole-difference binary32 lo) sum-difference (w .from)
-
-  pub at-most : over binary32 b + over binary32 d + under binary32 hi ≤ over binary32 hi + (under binary32 b + under binary32 d)
-  at-most = order-of (exactSum b d) (wholeOf binary32 hi) _ _ _ _ sum-difference (whole-difference binary32 hi) (w .to)
 
 -- ---- one motor, and all
 
@@ -80,10 +63,10 @@ motor-fitting floor b d hf fb fd w = go (lt small d) (lt d (neg small)) refl ref
     go : (u v : Bool) → lt small d ≡ u → lt d (neg small) ≡ v
         → cond ((u || v) && lt (cond u ((1f -f b) /f d) ((b -f floor) /f neg d)) 1f) (cond u ((1f -f b) /f d) ((b -f floor) /f neg d)) 1f ≡ 1f
     go true v e g =
-        let room = at-most w in
+        let room = sum-at-most w in
         no-limit ((1f -f b) /f d) (ap (lt ((1f -f b) /f d)) one-is-unit ∙ enough-room one-finite hb hd (over-small hd e) (omega arith))
     go false true e g =
-        let room = at-least w in
+        let room = sum-at-least w in
         no-limit ((b -f floor) /f neg d)
         (ap (lt ((b -f floor) /f neg d)) one-is-unit ∙ enough-room hb hf (neg-finite hd) (under-small hd g) (omega (arith, over-neg binary32 d, under-neg binary32 d)))
     go false false e g = refl

@@ -1,4 +1,5 @@
--- A number of binary32 that lies in 0..1 is a factor by which a product gets no larger. Assumes nothing.
+-- The laws of `specs/Range.antt`, at binary32. A number that lies in 0..1 is a factor by which a product gets no larger; and that an exact sum lies in a
+-- range, said over natural numbers. Assumes nothing.
 use mathlib.Core.Path.{_≡_, refl, sym, ap, _∙_}
 use mathlib.Core.Bool.{Bool, true, false, not, false≢true}
 use Prim.Native.Nat.{suc, _+_, _^_, _≤_, _<_}
@@ -12,21 +13,28 @@ use lib.Ieee.Bits.{ofBits-fits}
 use lib.Ieee.Scale.{overflow, finite}
 use Rattle.binary32.specs.Arithmetic.{0f, 1f}
 use Rattle.binary32.specs.Whole.{negative, magnitude, over, under}
-use Rattle.binary32.specs.Range.{Between}
-use Rattle.binary32.proofs.Magnitude.{Number}
+use Rattle.binary32.specs.Range.{Between, exactSum, SumWithin}
+use Rattle.binary32.proofs.Magnitude.{Number, Finite, finite-number}
 use Rattle.binary32.proofs.Order.{le-whole}
 use Rattle.binary32.proofs.RoundedSize.{over-negative, under-positive}
+use Rattle.binary32.proofs.Integers.{Difference, whole-difference, sum-of, order-of}
 use Rattle.binary32.proofs.Products.{Factor, one-is-unit, over-unit}
 
 -- ---- the two ends
 
+pub zero-finite : Finite binary32 0f
+unfolding ofBits
+zero-finite = record { fits = ofBits-fits binary32 0; finite = tt }
+
+pub one-finite : Finite binary32 1f
+unfolding ofBits
+one-finite = record { fits = ofBits-fits binary32 0x3f80_0000; finite = tt }
+
 pub zero-number : Number binary32 0f
-unfolding isNan ofBits
-zero-number = record { fits = ofBits-fits binary32 0; number = tt }
+zero-number = finite-number zero-finite
 
 pub one-number : Number binary32 1f
-unfolding isNan ofBits
-one-number = record { fits = ofBits-fits binary32 0x3f80_0000; number = tt }
+one-number = finite-number one-finite
 
 zero-over : over binary32 0f ≡ 0
 unfolding over negative magnitude ofBits
@@ -72,3 +80,15 @@ factor {s} h b =
     let to : over binary32 s ≤ over binary32 1f = omega arith in
     let most : over binary32 s ≤ 2 ^ low binary32 = le-trans to (le-of-eq (ap (over binary32) one-is-unit ∙ over-unit binary32)) in
     record { number = record { fits = h; finite = finite-of binary32 s n from most }; from = from; to = most }
+
+-- ---- the exact sum of two numbers lies in a range
+
+sum-difference : (x y : Float) → Difference (exactSum x y) (over binary32 x + over binary32 y) (under binary32 x + under binary32 y)
+unfolding exactSum
+sum-difference x y = sum-of (whole-difference binary32 x) (whole-difference binary32 y)
+
+pub sum-at-least : {lo hi x y : Float} → SumWithin lo hi x y → over binary32 lo + (under binary32 x + under binary32 y) ≤ over binary32 x + over binary32 y + under binary32 lo
+sum-at-least {lo} {x} {y} w = order-of (whole-difference binary32 lo) (sum-difference x y) (w .from)
+
+pub sum-at-most : {lo hi x y : Float} → SumWithin lo hi x y → over binary32 x + over binary32 y + under binary32 hi ≤ over binary32 hi + (under binary32 x + under binary32 y)
+sum-at-most {hi} {x} {y} w = order-of (sum-difference x y) (whole-difference binary32 hi) (w .to)
