@@ -4,6 +4,8 @@
 
 use relay_mix_quad::{motors_to_torque_signs, passed_on as quad, MixerN, QuadMixer};
 
+use crate::inputs::{PITCH, ROLL};
+
 /// One finding: its number in the document, the input, the answer found and the answer stated.
 pub struct Finding {
     pub label: &'static str,
@@ -74,6 +76,16 @@ fn solution(a: [[f32; 3]; 3], rhs: [f32; 3]) -> String {
 fn identity_over(d: f32) -> [[f32; 3]; 3] {
     let e = 1.0 / d;
     [[e, 0.0, 0.0], [0.0, e, 0.0], [0.0, 0.0, e]]
+}
+
+/// Ones, and the signs of roll and pitch of the three rotors after the lost one.
+fn rotor_out_matrix(lost: usize) -> [[f32; 3]; 3] {
+    let healthy = [1, 2, 3].map(|k| (lost + k) % 4);
+    [
+        [1.0; 3],
+        healthy.map(|i| ROLL[i]),
+        healthy.map(|i| PITCH[i]),
+    ]
 }
 
 /// Row i of a frame: what one motor at full command gives.
@@ -303,6 +315,12 @@ fn of_the_helpers() -> Vec<Finding> {
             "inf, NaN, NaN",
         ),
         finding(
+            "F36",
+            "det3 of the matrices that rotor-out solves, M1 to M4 out",
+            listed(&[0, 1, 2, 3].map(|lost| quad::det3(rotor_out_matrix(lost)))),
+            "4, 4, 4, 4",
+        ),
+        finding(
             "F28",
             "motors_to_torque_signs(0,0,0.5,0.25)",
             listed(&motors_to_torque_signs([0.0, 0.0, 0.5, 0.25])),
@@ -362,13 +380,14 @@ fn of_frames() -> Vec<Finding> {
         ),
         finding(
             "F35",
-            "bits of 4.837_513e-4 and of 7.549_79e-8",
+            "trailing zero bits of 1.570_312_5; bits of 4.837_513e-4 and of 7.549_79e-8",
             format!(
-                "{:08x}, {:08x}",
+                "{}; {:08x}, {:08x}",
+                1.570_312_5f32.to_bits().trailing_zeros(),
                 4.837_513e-4f32.to_bits(),
                 7.549_79e-8f32.to_bits()
             ),
-            "39fda000, 33a22169",
+            "16; 39fda000, 33a22169",
         ),
     ]
 }

@@ -379,8 +379,8 @@ pub fn systems() -> Inputs<impl Fn(u64) -> System> {
 }
 
 /// The signs of roll and pitch of the four rotors.
-const ROLL: [f32; 4] = [-1.0, -1.0, 1.0, 1.0];
-const PITCH: [f32; 4] = [1.0, -1.0, -1.0, 1.0];
+pub const ROLL: [f32; 4] = [-1.0, -1.0, 1.0, 1.0];
+pub const PITCH: [f32; 4] = [1.0, -1.0, -1.0, 1.0];
 
 /// The systems that rotor-out solves: ones, the signs of roll and of pitch of the three healthy
 /// rotors, and (3t, 0, 0) or (0, roll, pitch) on the right.
