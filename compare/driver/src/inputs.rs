@@ -11,7 +11,7 @@ pub struct Inputs<M> {
     pub make: M,
 }
 
-fn seeded<M>(kinds: &str, seed: u64, cases: u64, make: M) -> Inputs<M> {
+pub fn seeded<M>(kinds: &str, seed: u64, cases: u64, make: M) -> Inputs<M> {
     Inputs {
         kinds: format!("{kinds}; seed {seed}"),
         cases,
@@ -50,7 +50,7 @@ pub fn every_float() -> Inputs<impl Fn(u64) -> f32> {
 }
 
 /// The floors at which the floor clamp is compared. The clamp takes any bits.
-const FLOORS: [f32; 16] = [
+pub const FLOORS: [f32; 16] = [
     0.0,
     -0.0,
     LEAST,
@@ -86,7 +86,7 @@ const BELOW_ONE: f32 = 1.0 - f32::EPSILON / 2.0;
 const ABOVE_ONE: f32 = 1.0 + f32::EPSILON;
 
 /// Both zeros, the ends of the format, and the thresholds of the rules.
-const SPECIAL: [f32; 38] = [
+pub const SPECIAL: [f32; 38] = [
     0.0,
     -0.0,
     LEAST,
@@ -128,7 +128,7 @@ const SPECIAL: [f32; 38] = [
 ];
 
 /// The float k places above x, both zeros being one place, or x itself where k is 0.
-fn stepped(x: f32, k: i32) -> f32 {
+pub fn stepped(x: f32, k: i32) -> f32 {
     if k == 0 {
         return x;
     }
@@ -137,7 +137,7 @@ fn stepped(x: f32, k: i32) -> f32 {
 }
 
 /// The random numbers of one case: splitmix64.
-struct Random(u64);
+pub struct Random(u64);
 
 fn scrambled(x: u64) -> u64 {
     let x = (x ^ (x >> 30)).wrapping_mul(0xbf58_476d_1ce4_e5b9);
@@ -146,7 +146,7 @@ fn scrambled(x: u64) -> u64 {
 }
 
 impl Random {
-    fn new(seed: u64, n: u64) -> Random {
+    pub fn new(seed: u64, n: u64) -> Random {
         Random(scrambled(n.wrapping_add(scrambled(seed))))
     }
 
@@ -170,7 +170,7 @@ impl Random {
     }
 
     /// Any bits.
-    fn bits(&mut self) -> f32 {
+    pub fn bits(&mut self) -> f32 {
         f32::from_bits(self.next() as u32)
     }
 
@@ -180,7 +180,7 @@ impl Random {
     }
 
     /// From -1 to 1: a thousandth, or any.
-    fn flight(&mut self) -> f32 {
+    pub fn flight(&mut self) -> f32 {
         match self.below(2) {
             0 => (self.below(2001) as f32 - 1000.0) / 1000.0,
             _ => 2.0 * self.unit() - 1.0,
@@ -188,7 +188,7 @@ impl Random {
     }
 
     /// A number of any kind.
-    fn any(&mut self) -> f32 {
+    pub fn any(&mut self) -> f32 {
         match self.below(8) {
             0..=2 => self.one_of(&SPECIAL),
             3 => {

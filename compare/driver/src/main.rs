@@ -11,6 +11,7 @@ mod compare;
 mod findings;
 mod inputs;
 mod ours;
+mod rust;
 mod table;
 mod wrong;
 

@@ -7,7 +7,7 @@ use crate::inputs::{
     bytes, every_float, every_float_and_floor, every_pattern, fits, fits_of_any_length,
     rotor_out_systems, systems, Bytes, Fit, System,
 };
-use crate::ours;
+use crate::{ours, rust};
 
 pub fn table() -> Vec<Row> {
     vec![
@@ -24,7 +24,7 @@ pub fn table() -> Vec<Row> {
             |&x| ours::sanitise(x),
             |&x| quad::sanitise(x),
         ),
-        row("limit", every_float(), |&x| ours::limit(x), rust_limit),
+        row("limit", every_float(), |&x| ours::limit(x), rust::limit),
         row(
             "clamp, 0 to 1",
             every_float(),
@@ -49,34 +49,29 @@ pub fn table() -> Vec<Row> {
             |&x| ours::float_of(x),
             |&x| f32::from_bits(x),
         ),
-        row("bits_of", every_float(), |&x| ours::bits_of(x), rust_bits),
+        row("bits_of", every_float(), |&x| ours::bits_of(x), rust::bits),
         row(
             "clamp_floor",
             every_float_and_floor(),
             |&(x, lo)| ours::clamp_floor(x, lo),
-            rust_clamp_floor,
+            rust::clamp_floor,
         ),
         // the fit scale
-        row("scale", fits(), our_scale, rust_scale),
+        row("scale", fits(), our_scale, rust::scale),
         row(
             "scale, lengths",
             fits_of_any_length(),
             our_scale,
-            rust_scale,
+            rust::scale,
         ),
         // three equations
-        row(
-            "det3",
-            systems(),
-            |s| ours::det3(&s.a),
-            |s| quad::det3(s.rows()),
-        ),
-        row("solve3", systems(), our_solve3, rust_solve3),
+        row("det3", systems(), |s| ours::det3(&s.a), rust::det3),
+        row("solve3", systems(), our_solve3, rust::solve3),
         row(
             "solve3, rotor-out",
             rotor_out_systems(),
             our_solve3,
-            rust_solve3,
+            rust::solve3,
         ),
         // bytes
         row(
@@ -106,47 +101,14 @@ pub fn table() -> Vec<Row> {
     ]
 }
 
-// ---- one number
-
-/// The Rust's limited thrust or floor.
-pub fn rust_limit(&x: &f32) -> f32 {
-    quad::clamp01(quad::sanitise(x))
-}
-
-/// The Rust's bits, but for a NaN, whose bits are to be those of the quiet NaN.
-fn rust_bits(&x: &f32) -> u32 {
-    if x.is_nan() {
-        0x7fc0_0000
-    } else {
-        x.to_bits()
-    }
-}
-
-pub fn rust_clamp_floor(&(x, lo): &(f32, f32)) -> f32 {
-    quad::clamp_floor(x, lo)
-}
-
-// ---- the fit scale
+// ---- our side, where the inputs are of a type of their own
 
 fn our_scale(f: &Fit) -> f32 {
     ours::scale(f.base(), f.delta(), f.floor)
 }
 
-pub fn rust_scale(f: &Fit) -> f32 {
-    let (base, delta) = f.four();
-    quad::scale_to_fit(&base, &delta, f.floor)
-}
-
-// ---- three equations
-
 fn our_solve3(s: &System) -> (bool, [f32; 3]) {
     ours::solve3(&s.a, &s.rhs)
-}
-
-/// The Rust's answer, three +0 where it has none.
-pub fn rust_solve3(s: &System) -> (bool, [f32; 3]) {
-    let x = quad::solve3(s.rows(), s.rhs);
-    (x.is_some(), x.unwrap_or([0.0; 3]))
 }
 
 // ---- bytes

@@ -4,7 +4,7 @@
 
 use crate::compare::{row, Row};
 use crate::inputs::{every_float, every_float_and_floor, fits, systems, Fit, System};
-use crate::table::{rust_clamp_floor, rust_limit, rust_scale, rust_solve3};
+use crate::rust;
 
 pub fn wrong_table() -> Vec<Row> {
     vec![
@@ -12,11 +12,11 @@ pub fn wrong_table() -> Vec<Row> {
             "clamp_floor, +infinity to 1",
             every_float_and_floor(),
             clamp_floor,
-            rust_clamp_floor,
+            rust::clamp_floor,
         ),
-        row("limit, -0 to +0", every_float(), limit, rust_limit),
-        row("scale, an equal limit replaces", fits(), scale, rust_scale),
-        row("solve3, a cofactor's sign", systems(), solve3, rust_solve3),
+        row("limit, -0 to +0", every_float(), limit, rust::limit),
+        row("scale, an equal limit replaces", fits(), scale, rust::scale),
+        row("solve3, a cofactor's sign", systems(), solve3, rust::solve3),
     ]
 }
 

@@ -1,0 +1,120 @@
+// The walk over the list, record by record.
+ghost use mathlib.Core.Path.{_≡_};
+ghost use mathlib.Core.Bool.{true};
+ghost use Prim.Native.Nat.{ℕ, _≤_, _<_};
+ghost use lib.ListN.{getD};
+use crate::answers::ANSWERS;
+use crate::answers::INPUTS;
+use crate::answers::answer;
+use crate::show::print_difference;
+use number::bits::float_of;
+use number::bytes::read_u32;
+
+// How many bytes there is room for: more than a list has.
+pub const ROOM: usize = 524288;
+
+// How many of the differences are shown.
+const SHOWN: usize = 4;
+
+// How many records were compared, and how many differences there are.
+pub struct Tally {
+    pub compared: usize,
+    pub differ: usize,
+}
+
+// Replays a list. What is left after the last whole record is one difference, whatever it is.
+pub fn replay(list: &[u8]) -> Tally {
+    let mut compared = 0;
+    let mut differ = 0;
+    let mut at = 4;
+    while at < list.len() {
+        let size = size_of(read_u32(list, at));
+        if list.len() - at < size {
+            break;
+        }
+        let end = at + size;
+        if !agrees(compared, &list[at..end], differ < SHOWN) {
+            differ += 1;
+        }
+        compared += 1;
+        at = end;
+    }
+    if !is_whole(list, at, compared) {
+        differ += 1;
+    }
+    Tally { compared, differ }
+}
+
+// Whether the records end where the list does, and are as many as it says. A list that fills the room may have more to come.
+fn is_whole(list: &[u8], at: usize, compared: usize) -> bool {
+    at == list.len() && at < ROOM && compared == read_u32(list, 0) as usize
+}
+
+// ---- a record
+
+// Where its answers begin.
+fn answers_at(head: u32) -> usize
+    ensures { λ r. ⌜ (4 ≤ r) × (r < 1048576) ⌝ }
+{
+    4 + 4 * ((head % 65536) as usize)
+}
+
+// How many bytes it has.
+fn size_of(head: u32) -> usize
+    ensures { λ r. ⌜ (4 ≤ r) × (r < 2097152) ⌝ }
+{
+    answers_at(head) + 4 * ((head / 65536 % 256) as usize)
+}
+
+// Whether our answer is the Rust's. Where it is not, prints both if they are to be shown.
+fn agrees(number: usize, record: &[u8], is_shown: bool) -> bool {
+    let head = read_u32(record, 0);
+    let ours = answer(head, &inputs(record));
+    let words = ours.words;
+    let told = words_from(record, answers_at(head));
+    if ours.known && same(&words, &told) {
+        return true;
+    }
+    if is_shown {
+        print_difference(number, head, ours, &told);
+    }
+    false
+}
+
+// The words after the head, as floats. No kind looks past its own inputs.
+fn inputs(record: &[u8]) -> [f32; INPUTS] {
+    let mut x = [0.0; INPUTS];
+    let mut i = 0;
+    while i < INPUTS {
+        x[i] = float_of(read_u32(record, 4 + 4 * i));
+        i += 1;
+    }
+    x
+}
+
+// The words from a place on. Past the record's end they are 0, as ours are after the last.
+fn words_from(record: &[u8], from: usize) -> [u32; ANSWERS]
+    requires { ⌜ from < 1048576 ⌝ }
+{
+    let mut words = [0; ANSWERS];
+    let mut i = 0;
+    while i < ANSWERS {
+        words[i] = read_u32(record, from + 4 * i);
+        i += 1;
+    }
+    words
+}
+
+// Whether all words agree.
+fn same(a: &[u32; ANSWERS], b: &[u32; ANSWERS]) -> bool
+    ensures { λ r. ⌜ (r ≡ true → (k : ℕ) → k < 8 → getD (now (a .entry)) k 0 ≡ getD (now (b .entry)) k 0) ⌝ }
+{
+    let mut i = 0;
+    while i < ANSWERS {
+        if a[i] != b[i] {
+            return false;
+        }
+        i += 1;
+    }
+    true
+}
