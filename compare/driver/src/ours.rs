@@ -5,6 +5,7 @@
 mod probes {
     extern "C" {
         pub fn probe_is_finite(x: f32) -> bool;
+        pub fn probe_is_nan(x: f32) -> bool;
         pub fn probe_sanitise(x: f32) -> f32;
         pub fn probe_limit(x: f32) -> f32;
         pub fn probe_clamp(x: f32, lo: f32, hi: f32) -> f32;
@@ -31,6 +32,11 @@ mod probes {
 #[inline]
 pub fn is_finite(x: f32) -> bool {
     unsafe { probes::probe_is_finite(x) }
+}
+
+#[inline]
+pub fn is_nan(x: f32) -> bool {
+    unsafe { probes::probe_is_nan(x) }
 }
 
 #[inline]

@@ -19,6 +19,12 @@ pub fn table() -> Vec<Row> {
             |&x| x.is_finite(),
         ),
         row(
+            "is_nan",
+            every_float(),
+            |&x| ours::is_nan(x),
+            |&x| x.is_nan(),
+        ),
+        row(
             "sanitise",
             every_float(),
             |&x| ours::sanitise(x),

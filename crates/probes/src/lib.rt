@@ -1,7 +1,7 @@
 // The inner functions, exported for comparison with the Rust alone (compare/). Each passes on what one function of a crate below gives, and its contract says
-// the same. An integrator links the crate `exported`, not this one.
+// the same. It is no interface for an autopilot.
 ghost use mathlib.Core.Path.{_≡_};
-ghost use lib.Ieee.{binary32, ofBits, toBits};
+ghost use lib.Ieee.{binary32, isNan, ofBits, toBits};
 ghost use lib.Ieee.Scale.{finite};
 ghost use Rattle.number.specs.Treat.{treated, clamped, limited, floorClamp, unitClamp};
 ghost use Rattle.number.specs.Bytes.{bytesOf, readAt, writeAt};
@@ -14,6 +14,13 @@ pub extern "C" fn probe_is_finite(x: f32) -> bool
     ensures { λ r. ⌜ r ≡ finite x ⌝ }
 {
     number::is_finite(x)
+}
+
+#[no_mangle]
+pub extern "C" fn probe_is_nan(x: f32) -> bool
+    ensures { λ r. ⌜ r ≡ isNan x ⌝ }
+{
+    number::is_nan(x)
 }
 
 #[no_mangle]
