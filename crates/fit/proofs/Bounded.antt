@@ -15,7 +15,7 @@ use Rattle.binary32.specs.Whole.{over, under}
 use Rattle.binary32.specs.Range.{Between}
 use Rattle.binary32.proofs.Magnitude.{Number}
 use Rattle.binary32.proofs.Order.{lt-whole, le-whole}
-use Rattle.binary32.proofs.Range.{zero-number, one-number}
+use Rattle.binary32.proofs.Range.{zero-finite, zero-number, one-number}
 use Rattle.fit.specs.Fit.{limits, motorLimit, tightened, walk, settled, fitScale}
 
 -- ---- a scale that is held: a number, at most 1
@@ -81,3 +81,18 @@ settled-between s h = go (lt s 0f) (finite s) refl
 pub scale-between : (floor : Float) (bs ds : List Float) → Between 0f 1f (fitScale floor bs ds)
 unfolding fitScale
 scale-between floor bs ds = settled-between (walk floor 1f bs ds) (walk-held floor 1f bs ds one-held)
+
+-- ---- and it is finite: what is not has become +0
+
+settled-finite : (s : Float) → T (finite (settled s))
+unfolding settled
+settled-finite s = go (lt s 0f) (finite s) refl
+  where
+    go : (p q : Bool) → finite s ≡ q → T (finite (cond (p || not q) 0f s))
+    go true q e = zero-finite .finite
+    go false false e = zero-finite .finite
+    go false true e = rw e tt
+
+pub scale-finite : (floor : Float) (bs ds : List Float) → T (finite (fitScale floor bs ds))
+unfolding fitScale
+scale-finite floor bs ds = settled-finite (walk floor 1f bs ds)

@@ -33,8 +33,8 @@ fn shorter(a: usize, b: usize) -> usize
     if a < b { a } else { b }
 }
 
-// The largest scale in 0..1 that keeps base[i] + scale * delta[i] in floor..1 for every motor. Where the two slices differ in length, the walk goes as
-// far as the shorter one.
+// How much of their deltas the motors can take together: the smallest of their limits, at most 1. What base + scale * delta still passes floor..1 by, through rounding
+// or a delta too small to put a limit, is left to the caller's floor clamp. Where the two slices differ in length, the walk goes as far as the shorter one.
 pub fn scale(base: &[f32], delta: &[f32], floor: f32) -> f32
     ensures { λ r. ⌜ Scaled floor (now (base .entry)) (now (delta .entry)) r ⌝ }
 {

@@ -10,7 +10,7 @@ use borrow.Author.Needs.{needs, scaled-fits}
 use Rattle.binary32.specs.Arithmetic.{1f}
 use Rattle.fit.specs.Fit.{walk, settled, fitScale}
 use Rattle.fit.proofs.Walk.{walk-next, walk-over}
-use Rattle.fit.proofs.Bounded.{scale-between}
+use Rattle.fit.proofs.Bounded.{scale-between, scale-finite}
 use Rattle.fit.proofs.Fitting.{scale-fitting}
 use Rattle.fit.proofs.scale.Statement.{statement}
 use Rattle.fit.proofs.scale.Tie as tie
@@ -83,6 +83,7 @@ returns c =
     c .settle .ensures ∙ ap settled (sym (walk-over floor (at-loop .loop .s) base delta (at-loop .loop .i) (omega arith)) ∙ inv .2) in
     record {
       is = is;
+      number = rw is (scale-finite floor base delta);
       bounded = rw is (scale-between floor base delta);
       fitting = λ hf w. is ∙ scale-fitting floor base delta (record { fits = rw (start .good .1 .1 .0 .1) tt; finite = hf }) (known .before .shared-slice-known .given) (known .shared-slice-known2 .given) w;
     }
