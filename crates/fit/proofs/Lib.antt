@@ -4,3 +4,4 @@ pub mod Bounded
 pub mod Room
 pub mod Fitting
 pub mod Determined
+pub mod Examples
