@@ -9,7 +9,7 @@ use number::pick;
 const SMALL: f32 = 1.0e-6;
 
 // The scale held, after the motor with base b and delta d. The room that the delta uses up is that to the ceiling or that to the floor; dividing it by
-// the delta's size is one quotient for both signs, so nothing here waits for a branch.
+// the delta's size is one quotient for both signs.
 fn tighten(s: f32, b: f32, d: f32, floor: f32) -> f32
     ensures { λ r. ⌜ r ≡ tightened floor s b d ⌝ }
 {

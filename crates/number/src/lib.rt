@@ -25,7 +25,7 @@ pub fn is_nan(x: f32) -> bool
     x != x
 }
 
-// a where t holds, else b. Both are at hand, so the choice compiles to no jump.
+// a where t holds, else b. Code that is made of choices is straight-line, and so is its proof.
 pub fn pick(t: bool, a: f32, b: f32) -> f32
     ensures { λ r. ⌜ r ≡ cond t a b ⌝ }
 {
