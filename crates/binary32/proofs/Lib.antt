@@ -2,6 +2,7 @@ pub mod Tests
 pub mod Magnitude
 pub mod Order
 pub mod RoundedSize
+pub mod Positive
 pub mod Rounded
 pub mod Integers
 pub mod Operations
@@ -9,3 +10,4 @@ pub mod Products
 pub mod Exact
 pub mod Absolute
 pub mod Range
+pub mod LessOne

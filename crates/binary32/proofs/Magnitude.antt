@@ -99,12 +99,14 @@ pub record Multiple (f : Format) (m : ℕ) (e : ℤ) : Type 0 where
   pub shift : ℕ
   pub exact : m * up e * 2 ^ low f ≡ m * 2 ^ shift * down e
 
+pub pow-split : (a b : ℕ) → b ≤ a → 2 ^ a ≡ 2 ^ (a - b) * 2 ^ b
+pow-split a b h = ap (λ (n : ℕ). 2 ^ n) (sym (back a b h)) ∙ pow-add 2 (a - b) b
+
 pub multiple : (f : Format) (m : ℕ) (e : ℤ) → down e ≤ 2 ^ low f → Multiple f m e
 multiple f m (pos k) h = record { shift = k + low f; exact = simp (pow-add, mul-assoc, mul-one) }
 multiple f m (negsuc k) h =
     let short : suc k ≤ low f = le-of-suc-le-suc (lt-of-not-le (λ (g : suc (low f) ≤ suc k). not-le-of-lt (pow-lt g) h)) in
-    let split : 2 ^ low f ≡ 2 ^ (low f - suc k) * 2 ^ suc k = ap (λ (j : ℕ). 2 ^ j) (sym (back (low f) (suc k) short)) ∙ pow-add 2 (low f - suc k) (suc k) in
-    record { shift = low f - suc k; exact = ap (λ (x : ℕ). m * 1 * x) split ∙ simp (mul-one, mul-assoc) }
+    record { shift = low f - suc k; exact = ap (λ (x : ℕ). m * 1 * x) (pow-split (low f) (suc k) short) ∙ simp (mul-one, mul-assoc) }
 
 -- a number of the value a / 2 ^ low has the size a
 pub magnitude-of : (f : Format) (x : Float) (s : Bool) (a : ℕ) → HasValue x s a (2 ^ low f) → magnitude f x ≡ a
@@ -143,6 +145,13 @@ magnitude-under f (fin s m e) h t =
 
 pub finite-under : {f : Format} {x : Float} → Finite f x → magnitude f x < overflow f
 finite-under {f} {x} h = magnitude-under f x (h .fits) (h .finite)
+
+-- and what lies under it is finite
+pub under-finite : {f : Format} {x : Float} → Number f x → magnitude f x < overflow f → Finite f x
+unfolding isNan magnitude
+under-finite {x = nan} n h = absurd (n .number)
+under-finite {f} {x = inf s} n h = absurd (lt-irrefl (overflow f) h)
+under-finite {x = fin s m e} n h = record { fits = n .fits; finite = tt }
 
 -- ---- a sign and a size belong to one number: the bit pattern is made of these two
 

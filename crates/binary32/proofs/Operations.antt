@@ -10,11 +10,11 @@ use borrow.Author.Tests.{ltb-true, ltb-false, ne-eqb}
 use lib.Dec.{ltb}
 use lib.Pow.{pow-pos}
 use lib.IntN.{ℤ}
-use lib.Ieee.{Float, nan, inf, fin, Format, low, up, down, fits, round, sum, neg, add, sub, mul, div, unlike}
+use lib.Ieee.{Float, nan, inf, fin, Format, low, up, down, fits, isNan, round, sum, neg, add, sub, mul, div, unlike}
 use lib.Ieee.Fits.{up-pos, down-pos, neg-fits}
 use lib.Ieee.Scale.{finite, round-same}
 use Rattle.binary32.specs.Whole.{negative, magnitude, over, under}
-use Rattle.binary32.proofs.Magnitude.{Finite, by-finite, by-finite₂, magnitude-exact, magnitude-scaled, magnitude-zero}
+use Rattle.binary32.proofs.Magnitude.{Number, Finite, by-finite, by-finite₂, magnitude-exact, magnitude-scaled, magnitude-zero}
 use Rattle.binary32.proofs.Order.{alike}
 use Rattle.binary32.proofs.Rounded.{Rounded, round-positive, round-minus, by-difference, times-difference}
 
@@ -71,6 +71,15 @@ add-rounded {f} =
     (rw one-mul (magnitude-scaled f s m e p (down d)))
     (rw (one-mul, mul-comm (down e) (down d)) (magnitude-scaled f t n d q (down e)))))
     (sum-rounded f s X t Y))
+
+-- a sum of a number and a finite one is a number: an infinity stays itself
+pub add-number : {f : Format} {x y : Float} → Number f x → Finite f y → Number f (add f x y)
+unfolding isNan add
+add-number {x = nan} hx hy = absurd (hx .number)
+add-number {x = inf s} {y = nan} hx hy = absurd (hy .finite)
+add-number {x = inf s} {y = inf t} hx hy = absurd (hy .finite)
+add-number {x = inf s} {y = fin t n d} hx hy = hx
+add-number {x = fin s m e} hx hy = add-rounded (record { fits = hx .fits; finite = tt }) hy .number
 
 -- ---- differences
 

@@ -1,19 +1,19 @@
--- A product by 1 is the value itself, by bits. A product by a factor in 0..1 is no larger in size, and keeps the order. Assumes nothing.
+-- A product by 1 is the value itself, by bits, and one by -1 has its size. A product by a factor in 0..1 is no larger in size, and keeps the order. Assumes nothing.
 use mathlib.Core.Path.{_≡_, refl, sym, _∙_, subst₂}
 use Prim.Native.Nat.{ℕ, _+_, _-_, _*_, _^_, _≤_}
-use native.Mathlib.Nat.{mul-sub, mul-comm, mul-one, one-mul, zero-mul, mul-add, add-mul, div-one, mul-le-mul-right, mul-le-mul-left, le-antisymm}
+use native.Mathlib.Nat.{mul-sub, mul-comm, mul-one, one-mul, zero-mul, mul-add, add-mul, div-one, mul-le-mul-right, mul-le-mul-left}
 use native.Mathlib.Omega.{arith}
-use mathlib.Core.Bool.{Bool, true, false}
+use mathlib.Core.Bool.{Bool, true, false, not}
 use lib.Dec.{T}
 use lib.Pow.{pow-pos}
 use lib.IntN.{pos}
-use lib.Ieee.{Float, nan, inf, fin, Format, binary32, binary64, low, up, down, fits, mul, unlike, ofBits}
+use lib.Ieee.{Float, nan, inf, fin, Format, binary32, binary64, low, up, down, fits, neg, mul, unlike, ofBits}
 use Rattle.binary32.specs.Arithmetic.{1f}
 use Rattle.binary32.specs.Whole.{negative, magnitude, over, under}
-use Rattle.binary32.proofs.Magnitude.{Finite, by-finite₂, finite-number, same-number}
-use Rattle.binary32.proofs.RoundedSize.{rounded-mono, round-negative, over-positive, under-positive, over-negative, under-negative}
-use Rattle.binary32.proofs.Rounded.{Rounded, by-difference, rounded-order, own-rounding}
-use Rattle.binary32.proofs.Operations.{mul-rounded}
+use Rattle.binary32.proofs.Magnitude.{Finite, by-finite₂, finite-under, under-finite}
+use Rattle.binary32.proofs.RoundedSize.{rounded-mono, round-negative, round-size}
+use Rattle.binary32.proofs.Rounded.{Rounded, by-difference, by-fraction, rounded-order, own-rounding, same-rounded}
+use Rattle.binary32.proofs.Operations.{neg-finite, mul-rounded}
 
 -- ---- one
 
@@ -38,15 +38,6 @@ pub under-unit : (f : Format) → under f unit ≡ 0
 unfolding under negative
 under-unit f = refl
 
--- ---- two numbers of one sign that are equal are one
-
-same-size : (f : Format) (x y : Float) → negative x ≡ negative y → over f x + under f y ≡ over f y + under f x → magnitude f x ≡ magnitude f y
-same-size f x y s e = go (negative y) refl
-  where
-    go : (b : Bool) → negative y ≡ b → magnitude f x ≡ magnitude f y
-    go false t = omega (arith, over-positive f x (s ∙ t), under-positive f x (s ∙ t), over-positive f y t, under-positive f y t)
-    go true t = omega (arith, over-negative f x (s ∙ t), under-negative f x (s ∙ t), over-negative f y t, under-negative f y t)
-
 -- ---- the product by one
 
 mul-negative : {f : Format} {x y : Float} → Finite f x → Finite f y → negative (mul f x y) ≡ unlike (negative x) (negative y)
@@ -63,14 +54,11 @@ unlike-unit false = refl
 one-times-finite : {f : Format} {x : Float} → Finite f x → mul f unit x ≡ x
 one-times-finite {f} {x} h =
     let L = 2 ^ low f in
-    let z = mul f unit x in
     let u = unit-finite f in
-    let r : Rounded f z (L * over f x + 0 * under f x) (L * under f x + 0 * over f x) L = simp (over-unit, under-unit) at (mul-rounded u h) in
-    let o = own-rounding h in
-    let s : negative z ≡ negative x = mul-negative u h ∙ unlike-unit (negative x) in
-    let lo : over f z + under f x ≤ over f x + under f z = rounded-order r o (pow-pos (low f)) (pow-pos 0) (omega (arith, mul-comm L (over f x), mul-comm L (under f x))) in
-    let hi : over f x + under f z ≤ over f z + under f x = rounded-order o r (pow-pos 0) (pow-pos (low f)) (omega (arith, mul-comm L (over f x), mul-comm L (under f x))) in
-    same-number (r .number) (finite-number h) s (same-size f z x s (le-antisymm lo hi))
+    let r : Rounded f (mul f unit x) (L * over f x + 0 * under f x) (L * under f x + 0 * over f x) L = simp (over-unit, under-unit) at (mul-rounded u h) in
+    same-rounded (by-fraction r (over f x) (under f x) 1 (pow-pos (low f)) (pow-pos 0) (omega (arith, mul-comm L (over f x), mul-comm L (under f x))))
+    (own-rounding h)
+    (mul-negative u h ∙ unlike-unit (negative x))
 
 pub one-times : (f : Format) (x : Float) → T (fits f x) → mul f unit x ≡ x
 unfolding mul
@@ -78,6 +66,48 @@ one-times f nan h = refl
 one-times f (inf true) h = refl
 one-times f (inf false) h = refl
 one-times f (fin s m e) h = one-times-finite (record { fits = h; finite = tt })
+
+-- ---- a product is the same both ways round, so the product with one is
+
+unlike-swapped : (s t : Bool) → unlike s t ≡ unlike t s
+unlike-swapped true true = refl
+unlike-swapped true false = refl
+unlike-swapped false true = refl
+unlike-swapped false false = refl
+
+mul-swapped : (f : Format) (x y : Float) → mul f x y ≡ mul f y x
+unfolding mul
+mul-swapped f nan nan = refl
+mul-swapped f nan (inf t) = refl
+mul-swapped f nan (fin t n d) = refl
+mul-swapped f (inf s) nan = refl
+mul-swapped f (inf s) (inf t) = rw (unlike-swapped s t)
+mul-swapped f (inf s) (fin t n d) = rw (unlike-swapped s t)
+mul-swapped f (fin s m e) nan = refl
+mul-swapped f (fin s m e) (inf t) = rw (unlike-swapped s t)
+mul-swapped f (fin s m e) (fin t n d) = rw (unlike-swapped s t, mul-comm (m * up e) (n * up d), mul-comm (down e) (down d))
+
+pub times-one : (f : Format) (x : Float) → T (fits f x) → mul f x unit ≡ x
+times-one f x h = mul-swapped f x unit ∙ one-times f x h
+
+-- a factor's sign does not change a product's size
+turned-size : {f : Format} {x y : Float} → Finite f x → Finite f y → magnitude f (mul f (neg x) y) ≡ magnitude f (mul f x y)
+unfolding mul neg
+turned-size {f} =
+    by-finite₂ (λ x y. magnitude f (mul f (neg x) y) ≡ magnitude f (mul f x y))
+    (λ s m e t n d p q.
+    let a = m * up e * (n * up d) in
+    let c = down e * down d in
+    round-size f (unlike (not s) t) a c ∙ sym (round-size f (unlike s t) a c))
+
+-- a product by 1, and one by -1, is finite
+pub one-product-finite : {f : Format} {x : Float} → Finite f x → Finite f (mul f unit x)
+one-product-finite {f} {x} h = rw (one-times f x (h .fits)) h
+
+pub minus-one-product-finite : {f : Format} {x : Float} → Finite f x → Finite f (mul f (neg unit) x)
+minus-one-product-finite {f} {x} h =
+    let u = unit-finite f in
+    under-finite (mul-rounded (neg-finite u) h .number) (rw (turned-size u h) (finite-under (one-product-finite h)))
 
 -- ---- a factor in 0..1
 

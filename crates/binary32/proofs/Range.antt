@@ -1,16 +1,15 @@
--- The laws of `specs/Range.antt`, at binary32. A number that lies in 0..1 is a factor by which a product gets no larger; and that an exact sum lies in a
--- range, said over natural numbers. Assumes nothing.
+-- The laws of `specs/Range.antt`. What lies between two finite numbers is finite; at binary32, a number that lies in 0..1 is a factor by which a product
+-- gets no larger; and that an exact sum lies in a range, said over natural numbers. Assumes nothing.
 use mathlib.Core.Path.{_≡_, refl, sym, ap, _∙_}
 use mathlib.Core.Bool.{Bool, true, false, not, false≢true}
-use Prim.Native.Nat.{suc, _+_, _^_, _≤_, _<_}
-use native.Mathlib.Nat.{not-le-of-lt, le-of-eq, le-trans}
+use Prim.Native.Nat.{_+_, _^_, _≤_}
+use native.Mathlib.Nat.{le-of-eq, le-trans}
 use native.Mathlib.Omega.{arith}
 use borrow.Author.Tests.{leb-true}
 use lib.Dec.{T}
-use lib.Pow.{pow-pos, pow-lt}
-use lib.Ieee.{Float, nan, inf, fin, Format, binary32, low, emax, fits, isNan, le, ofBits}
+use lib.Ieee.{Float, nan, inf, fin, Format, binary32, low, fits, isNan, le, ofBits}
 use lib.Ieee.Bits.{ofBits-fits}
-use lib.Ieee.Scale.{overflow, finite}
+use lib.Ieee.Scale.{finite}
 use Rattle.binary32.specs.Arithmetic.{0f, 1f}
 use Rattle.binary32.specs.Whole.{negative, magnitude, over, under}
 use Rattle.binary32.specs.Range.{Between, exactSum, SumWithin}
@@ -36,26 +35,44 @@ zero-number = finite-number zero-finite
 pub one-number : Number binary32 1f
 one-number = finite-number one-finite
 
-zero-over : over binary32 0f ≡ 0
+pub zero-over : over binary32 0f ≡ 0
 unfolding over negative magnitude ofBits
 zero-over = refl
 
-zero-under : under binary32 0f ≡ 0
+pub zero-under : under binary32 0f ≡ 0
 unfolding under negative ofBits
 zero-under = refl
 
 -- ---- what is compared and found in order is a number
 
-le-number : (x y : Float) → le x y ≡ true → T (not (isNan x))
+pub le-number : (x y : Float) → le x y ≡ true → T (not (isNan x))
 unfolding le isNan
 le-number nan y h = absurd (false≢true h)
 le-number (inf s) y h = tt
 le-number (fin s m e) y h = tt
 
--- ---- what counts no more above zero than one does is finite
+-- ---- what lies between two finite numbers is finite
 
-above-one : (f : Format) → 2 ^ low f < overflow f
-above-one f = pow-lt (omega arith)
+over-minus-infinity : (x : Float) → T (finite x) → le x (inf true) ≡ true → ⊥
+unfolding le
+over-minus-infinity nan t h = absurd t
+over-minus-infinity (inf s) t h = absurd t
+over-minus-infinity (fin s m e) t h = false≢true h
+
+under-infinity : (x : Float) → T (finite x) → le (inf false) x ≡ true → ⊥
+unfolding le
+under-infinity nan t h = absurd t
+under-infinity (inf s) t h = absurd t
+under-infinity (fin s m e) t h = false≢true h
+
+pub between-finite : {lo hi x : Float} → T (finite lo) → T (finite hi) → Between lo hi x → T (finite x)
+unfolding isNan
+between-finite {hi} {x = nan} tl th b = le-number nan hi (b .to)
+between-finite {lo} {x = inf true} tl th b = over-minus-infinity lo tl (b .from)
+between-finite {hi} {x = inf false} tl th b = under-infinity hi th (b .to)
+between-finite {x = fin s m e} tl th b = tt
+
+-- ---- what lies in 0..1 is a factor
 
 not-negative : (f : Format) (s : Float) → under f s ≤ over f s → under f s ≡ 0
 not-negative f s h = go (negative s) refl
@@ -63,13 +80,6 @@ not-negative f s h = go (negative s) refl
     go : (b : Bool) → negative s ≡ b → under f s ≡ 0
     go false n = under-positive f s n
     go true n = omega (arith, over-negative f s n)
-
-finite-of : (f : Format) (s : Float) → Number f s → under f s ≡ 0 → over f s ≤ 2 ^ low f → T (finite s)
-unfolding isNan over under negative magnitude
-finite-of f nan n u h = absurd (n .number)
-finite-of f (inf true) n u h = absurd (not-le-of-lt (pow-pos (low f + suc (emax f))) (le-of-eq u))
-finite-of f (inf false) n u h = absurd (not-le-of-lt (above-one f) h)
-finite-of f (fin s m e) n u h = tt
 
 pub factor : {s : Float} → T (fits binary32 s) → Between 0f 1f s → Factor binary32 s
 factor {s} h b =
@@ -79,7 +89,7 @@ factor {s} h b =
     let from : under binary32 s ≡ 0 = not-negative binary32 s (omega (arith, zero-over, zero-under)) in
     let to : over binary32 s ≤ over binary32 1f = omega arith in
     let most : over binary32 s ≤ 2 ^ low binary32 = le-trans to (le-of-eq (ap (over binary32) one-is-unit ∙ over-unit binary32)) in
-    record { number = record { fits = h; finite = finite-of binary32 s n from most }; from = from; to = most }
+    record { number = record { fits = h; finite = between-finite (zero-finite .finite) (one-finite .finite) b }; from = from; to = most }
 
 -- ---- the exact sum of two numbers lies in a range
 

@@ -1,6 +1,6 @@
 -- `Rounded f z p n c` says that z is (p - n) / c units rounded, a zero's sign aside: one statement for both signs, since one of the two truncated
--- differences is 0. Three laws carry what stands above: rounding keeps the order, a value of the format is its own rounding, and
--- two roundings of one fraction are one number. Assumes nothing.
+-- differences is 0. Four laws carry what stands above: rounding keeps the order, a value of the format is its own rounding, two roundings of one fraction
+-- are one number, and a whole number of units that has few digits rounds to itself. Assumes nothing.
 use mathlib.Core.Path.{_≡_, refl, sym, ap, ap₂, _∙_, subst₂}
 use Prim.Native.Nat.{ℕ, _+_, _-_, _*_, _^_, _≤_, _<_}
 use native.Mathlib.Nat.{mul-sub, mul-comm, sub-zero, zero-sub}
@@ -9,10 +9,11 @@ use mathlib.Core.Bool.{Bool, true, false}
 use borrow.Author.Tests.{eq-eqb}
 use lib.Pow.{pow-pos}
 use lib.Ieee.{Float, Format, low, round, eq}
-use Rattle.binary32.specs.Whole.{negative, over, under}
-use Rattle.binary32.proofs.Magnitude.{Number, Finite, finite-number}
+use lib.Ieee.Scale.{overflow}
+use Rattle.binary32.specs.Whole.{negative, magnitude, over, under}
+use Rattle.binary32.proofs.Magnitude.{Number, Finite, finite-number, under-finite, same-number}
 use Rattle.binary32.proofs.Order.{eq-whole}
-use Rattle.binary32.proofs.RoundedSize.{roundedTo, rounded-nothing, rounded-same, rounded-mono, rounded-own, round-number, round-negative, round-size, over-positive, under-positive, over-negative, under-negative}
+use Rattle.binary32.proofs.RoundedSize.{roundedTo, Short, rounded-short, over-and-under, rounded-nothing, rounded-same, rounded-mono, rounded-own, round-number, round-negative, round-size, over-positive, under-positive, over-negative, under-negative}
 
 pub record Rounded (f : Format) (z : Float) (p n c : ℕ) : Type 0 where
   pub number : Number f z
@@ -98,3 +99,24 @@ pub one-number : {f : Format} {z w : Float} {p n c : ℕ} → Rounded f z p n c 
 one-number {f} {z} {w} hz hw =
     eq-whole (hz .number) (hw .number)
     ∙ eq-eqb (over f z + under f w) (over f w + under f z) (omega (arith, hz .above ∙ sym (hw .above), hz .below ∙ sym (hw .below)))
+
+-- and one value, by bits, where they have one sign
+pub same-rounded : {f : Format} {z w : Float} {p n c : ℕ} → Rounded f z p n c → Rounded f w p n c → negative z ≡ negative w → z ≡ w
+same-rounded {f} {z} {w} hz hw s =
+    same-number (hz .number) (hw .number) s
+    (sym (over-and-under f z) ∙ ap₂ _+_ (hz .above ∙ sym (hw .above)) (hz .below ∙ sym (hw .below)) ∙ over-and-under f w)
+
+-- ---- a whole number of units that has few digits rounds to itself
+
+-- z is a units
+pub record Exactly (f : Format) (z : Float) (a : ℕ) : Type 0 where
+  pub finite : Finite f z
+  pub above : over f z ≡ a
+  pub below : under f z ≡ 0
+
+pub exactly : {f : Format} {z : Float} {a : ℕ} → Rounded f z a 0 1 → Short f a → a < overflow f → Exactly f z a
+exactly {f} {z} {a} h k less =
+    let above : over f z ≡ a = h .above ∙ ap (λ (n : ℕ). roundedTo f n 1) (sub-zero a) ∙ rounded-short k less in
+    let below : under f z ≡ 0 = h .below ∙ ap (λ (n : ℕ). roundedTo f n 1) (zero-sub a) ∙ rounded-nothing f 1 (pow-pos 0) in
+    let size : magnitude f z < overflow f = omega (arith, over-and-under f z) in
+    record { finite = under-finite (h .number) size; above = above; below = below }

@@ -8,13 +8,12 @@ use mathlib.Core.Bool.{Bool, true, false, not, cond}
 use borrow.Author.Tests.{leb-true}
 use lib.Dec.{T, ltb}
 use lib.Pow.{pow-pos}
-use lib.IntN.{ℤ}
-use lib.Ieee.{Float, inf, fin, Format, prec, low, fits, isNan, odd, units, round, le}
+use lib.Ieee.{Float, inf, Format, prec, low, isNan, odd, units, round, le}
 use lib.Ieee.Bits.{is-true}
 use lib.Ieee.Exact.{HasValue, odd-sign, round-exact}
 use lib.Ieee.Fits.{round-is, round-fits}
 use lib.Ieee.Order.{drop, kept, round-mono}
-use lib.Ieee.Scale.{grid, overflow, finite, round-same}
+use lib.Ieee.Scale.{grid, overflow, round-same}
 use Rattle.binary32.specs.Whole.{negative, magnitude, over, under}
 use Rattle.binary32.proofs.Tests.{round-nothing}
 use Rattle.binary32.proofs.Magnitude.{Number, Finite, by-finite, held, multiple, magnitude-of, magnitude-shifted, finite-under}
@@ -81,6 +80,14 @@ pub under-negative : (f : Format) (x : Float) → negative x ≡ true → under 
 unfolding under
 under-negative f x s = ap (λ (b : Bool). cond b (magnitude f x) 0) s
 
+-- one of the two is the size, and the other is 0
+pub over-and-under : (f : Format) (x : Float) → over f x + under f x ≡ magnitude f x
+over-and-under f x = go (negative x) refl
+  where
+    go : (s : Bool) → negative x ≡ s → over f x + under f x ≡ magnitude f x
+    go false s = omega (arith, over-positive f x s, under-positive f x s)
+    go true s = omega (arith, over-negative f x s, under-negative f x s)
+
 -- ---- the size of what a / c units round to
 
 unfoldable pub roundedTo : Format → ℕ → ℕ → ℕ
@@ -111,19 +118,31 @@ rounded-mono f a c b d C D h =
     ∙ is-true (le x y) (round-mono f a (c * L) b (d * L) (mul-pos C (pow-pos (low f))) (mul-pos D (pow-pos (low f))) wide)) in
     omega (arith, over-positive f x sx, under-positive f x sx, over-positive f y sy, under-positive f y sy)
 
--- a value of the format is its own rounding
-own-finite : (f : Format) (s : Bool) (m : ℕ) (e : ℤ) → T (fits f (fin s m e)) → roundedTo f (magnitude f (fin s m e)) 1 ≡ magnitude f (fin s m e)
+-- ---- a size of few digits rounds to itself
+
+-- n is a number of no more digits than the format's, shifted
+pub record Short (f : Format) (n : ℕ) : Type 0 where
+  pub digits : ℕ
+  pub shift : ℕ
+  pub few : digits < 2 ^ prec f
+  pub exact : n ≡ digits * 2 ^ shift
+
+pub rounded-short : {f : Format} {n : ℕ} → Short f n → n < overflow f → roundedTo f n 1 ≡ n
 unfolding roundedTo
-own-finite f s m e h =
+rounded-short {f} {n} k h =
     let L = 2 ^ low f in
-    let k = multiple f m e (held f s m e h .fine) in
-    let n = magnitude f (fin s m e) in
-    let shifted : n ≡ m * 2 ^ k .shift = magnitude-shifted f s m e k in
-    let small : m * 2 ^ k .shift < overflow f = subst (λ (z : ℕ). z < overflow f) shifted (finite-under (record { fits = h; finite = tt })) in
     magnitude-of f (round f false n (1 * L)) false n
     (subst (λ (z : ℕ). HasValue (round f false n (1 * L)) false n z) (one-mul L)
-    (round-exact f false n (1 * L) m (k .shift) (mul-pos (pow-pos 0) (pow-pos (low f))) (held f s m e h .digits) small
-    (ap (λ (z : ℕ). z * L) shifted ∙ ap (λ (z : ℕ). m * 2 ^ k .shift * z) (sym (one-mul L)))))
+    (round-exact f false n (1 * L) (k .digits) (k .shift) (mul-pos (pow-pos 0) (pow-pos (low f))) (k .few) (subst (λ (z : ℕ). z < overflow f) (k .exact) h)
+    (ap (λ (z : ℕ). z * L) (k .exact) ∙ ap (λ (z : ℕ). k .digits * 2 ^ k .shift * z) (sym (one-mul L)))))
+
+-- such is the size of a value of the format, which so is its own rounding
+pub short : {f : Format} {x : Float} → Finite f x → Short f (magnitude f x)
+short {f} =
+    by-finite (λ x. Short f (magnitude f x))
+    (λ s m e h.
+    let k = multiple f m e (held f s m e h .fine) in
+    record { digits = m; shift = k .shift; few = held f s m e h .digits; exact = magnitude-shifted f s m e k })
 
 pub rounded-own : {f : Format} {x : Float} → Finite f x → roundedTo f (magnitude f x) 1 ≡ magnitude f x
-rounded-own {f} = by-finite (λ x. roundedTo f (magnitude f x) 1 ≡ magnitude f x) (own-finite f)
+rounded-own h = rounded-short (short h) (finite-under h)

@@ -96,3 +96,11 @@ settled-finite s = go (lt s 0f) (finite s) refl
 pub scale-finite : (floor : Float) (bs ds : List Float) → T (finite (fitScale floor bs ds))
 unfolding fitScale
 scale-finite floor bs ds = settled-finite (walk floor 1f bs ds)
+
+-- ---- and the format holds it
+
+pub scale-fits : (floor : Float) (bs ds : List Float) → T (fits binary32 (fitScale floor bs ds))
+unfolding fitScale settled
+scale-fits floor bs ds =
+    let s = walk floor 1f bs ds in
+    cond-fits binary32 (lt s 0f || not (finite s)) 0f s (zero-finite .fits) (walk-held floor 1f bs ds one-held .number .fits)

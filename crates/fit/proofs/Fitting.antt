@@ -16,11 +16,12 @@ use Rattle.binary32.specs.Whole.{negative, over, under}
 use Rattle.binary32.specs.Range.{SumWithin}
 use Rattle.binary32.proofs.Magnitude.{Finite, finite-number}
 use Rattle.binary32.proofs.Order.{lt-whole}
+use Rattle.binary32.proofs.Positive.{Positive, positive}
 use Rattle.binary32.proofs.Operations.{neg-finite, over-neg, under-neg}
 use Rattle.binary32.proofs.Products.{one-is-unit}
 use Rattle.binary32.proofs.Range.{one-finite, sum-at-least, sum-at-most}
 use Rattle.fit.specs.Fit.{limits, motorLimit, tightened, walk, settled, fitScale, EachMotor}
-use Rattle.fit.proofs.Room.{Positive, positive, enough-room}
+use Rattle.fit.proofs.Room.{enough-room}
 
 -- ---- a delta over small, or under -small, is not zero
 

@@ -2,7 +2,7 @@
 -- Rounding keeps the order twice: a - b rounds to no less than d, which is its own rounding, and the quotient, at least 1, to no less than 1.
 -- In either format. Assumes nothing.
 use mathlib.Core.Path.{_≡_, refl, _∙_, subst}
-use mathlib.Core.Bool.{Bool, true, false, true≢false}
+use mathlib.Core.Bool.{true, false, true≢false}
 use Prim.Native.Nat.{ℕ, _+_, _*_, _^_, _≤_, _<_}
 use native.Mathlib.Nat.{mul-one, zero-mul, mul-comm, mul-le-mul-right}
 use native.Mathlib.Omega.{arith}
@@ -11,27 +11,13 @@ use lib.Pow.{pow-pos}
 use lib.Ieee.{Float, nan, inf, fin, Format, low, isNan, lt, sub, div}
 use lib.Ieee.Scale.{finite}
 use Rattle.binary32.specs.Whole.{negative, magnitude, over, under}
-use Rattle.binary32.proofs.Magnitude.{Number, Finite, finite-number}
+use Rattle.binary32.proofs.Magnitude.{Finite, finite-number}
 use Rattle.binary32.proofs.Order.{lt-whole}
-use Rattle.binary32.proofs.RoundedSize.{over-positive, under-positive, over-negative}
+use Rattle.binary32.proofs.RoundedSize.{over-positive, under-positive}
+use Rattle.binary32.proofs.Positive.{Positive, positive}
 use Rattle.binary32.proofs.Rounded.{Rounded, rounded-order, own-rounding}
 use Rattle.binary32.proofs.Operations.{sub-rounded, div-rounded}
 use Rattle.binary32.proofs.Products.{unit, unit-finite, over-unit, under-unit}
-
--- ---- a number above zero
-
-pub record Positive (f : Format) (x : Float) : Type 0 where
-  pub number : Number f x
-  pub plus : negative x ≡ false
-  pub some : 0 < over f x
-
--- what counts something above zero is positive
-pub positive : {f : Format} {x : Float} → Number f x → 0 < over f x → Positive f x
-positive {f} {x} n h = record { number = n; plus = go (negative x) refl; some = h }
-  where
-    go : (s : Bool) → negative x ≡ s → s ≡ false
-    go false s = refl
-    go true s = let no : ⊥ = omega (arith, over-negative f x s) in absurd no
 
 -- ---- the quotient of a positive number by a smaller one
 

@@ -6,6 +6,7 @@ use lib.Ieee.Scale.{finite}
 use Rattle.binary32.specs.Arithmetic.{_-f_, _/f_, 0f, 1f, small}
 use Rattle.binary32.proofs.Order.{lt-minus}
 use Rattle.number.specs.Treat.{treated}
+use Rattle.number.proofs.Choice.{both}
 use Rattle.fit.specs.Fit.{limits, motorLimit, tightened, settled}
 
 -- the delta's size where it is farther than `small` from zero, and the quotient by it
@@ -14,10 +15,6 @@ sizeOf d = cond (lt small d) d (neg d)
 
 abbrev pub quotient : Float → Float → Float → Float
 quotient floor b d = cond (lt small d) (1f -f b) (b -f floor) /f sizeOf d
-
-both : (p q : Bool) (x y : Float) → cond p (cond q x y) y ≡ cond (p && q) x y
-both true q x y = refl
-both false q x y = refl
 
 pub one-quotient : (floor s b d : Float) → cond (lt small (sizeOf d)) (cond (lt (quotient floor b d) s) (quotient floor b d) s) s ≡ tightened floor s b d
 unfolding limits motorLimit tightened

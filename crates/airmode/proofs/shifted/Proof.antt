@@ -1,0 +1,74 @@
+-- `airmode::shifted` meets its contract: each of the four numbers, shifted and clamped. Assumes nothing.
+use mathlib.Core.Path.{_≡_, sym, ap}
+use mathlib.Core.List.{List}
+use mathlib.Core.List.{map}
+use native.Mathlib.Omega.{arith}
+use borrow.Author.Needs.{needs}
+use lib.ListN.{length}
+use lib.Ieee.{Float}
+use Rattle.rules.specs.Airmode.{shift, shifted}
+use Rattle.rules.specs.Extremes.{least, largest}
+use Rattle.binary32.specs.Arithmetic.{_+f_}
+use Rattle.number.specs.Treat.{floorClamp}
+use Rattle.rotors.proofs.Four.{four}
+use Rattle.airmode.proofs.shifted.Statement.{statement}
+use Rattle.airmode.proofs.shifted.Tie as tie
+
+least-requires : tie.Need-least-requires
+least-requires c κs = search needs
+
+largest-requires : tie.Need-largest-requires
+largest-requires c κs = search needs
+
+shift-requires : tie.Need-shift-requires
+shift-requires c κs = search needs
+
+array-read-clamp-floor : tie.Need-array-read-clamp-floor
+array-read-clamp-floor c = search needs
+
+clamp-floor-requires : tie.Need-clamp-floor-requires
+clamp-floor-requires c κs = search needs
+
+array-read-clamp-floor-2 : tie.Need-array-read-clamp-floor-2
+array-read-clamp-floor-2 c = search needs
+
+clamp-floor-requires-2 : tie.Need-clamp-floor-requires-2
+clamp-floor-requires-2 c κs = search needs
+
+array-read-clamp-floor-3 : tie.Need-array-read-clamp-floor-3
+array-read-clamp-floor-3 c = search needs
+
+clamp-floor-requires-3 : tie.Need-clamp-floor-requires-3
+clamp-floor-requires-3 c κs = search needs
+
+array-read-clamp-floor-4 : tie.Need-array-read-clamp-floor-4
+array-read-clamp-floor-4 c = search needs
+
+clamp-floor-requires-4 : tie.Need-clamp-floor-requires-4
+clamp-floor-requires-4 c κs = search needs
+
+returns : tie.Need-returns
+unfolding shifted
+returns c =
+    let args = c .before .before .before .before .before .before .before .args in
+    let idle = args .idle in
+    let m = args .t2 in
+    let length : length m ≡ 4 = omega arith in
+    simp (c .clamp-floor4 .ensures, c .before .clamp-floor3 .ensures, c .before .before .clamp-floor2 .ensures, c .before .before .before .clamp-floor .ensures, c .before .before .before .before .shift .ensures, c .before .before .before .before .before .largest .ensures, c .before .before .before .before .before .before .least .ensures) (ap (map (λ (x : Float). floorClamp (x +f shift idle (least m) (largest m)) idle)) (sym (four m length)))
+
+pub shifted-spec : {M : Type 1} → statement M
+shifted-spec =
+    tie.close
+    (tie.spec
+    least-requires
+    largest-requires
+    shift-requires
+    array-read-clamp-floor
+    clamp-floor-requires
+    array-read-clamp-floor-2
+    clamp-floor-requires-2
+    array-read-clamp-floor-3
+    clamp-floor-requires-3
+    array-read-clamp-floor-4
+    clamp-floor-requires-4
+    returns)

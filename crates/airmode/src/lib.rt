@@ -1,0 +1,68 @@
+// The airmode mix: torque before thrust, with an idle floor. Follows relay-mix-quad's `mix_airmode` (Apache-2.0, see NOTICE); changed: written in Rattle with contracts, with
+// choices in the place of branches and the loops over four motors written out, and without the
+// tests there that never fail (a treated spread is finite, and so is the quotient by a spread over SMALL).
+use number::clamp_floor;
+use number::limit;
+use number::pick;
+use number::sanitise;
+use rotors::command::deltas;
+use rotors::extremes::largest;
+use rotors::extremes::least;
+ghost use mathlib.Core.Path.{_≡_};
+ghost use Rattle.rules.specs.Rows.{quadRows};
+ghost use Rattle.rules.specs.Airmode.{spread, spreadScale, unshifted, shift, shifted, airmodeMotors};
+
+const SMALL: f32 = 1.0e-6;
+
+// How far the deltas lie apart. Treated: an overflow counts as none.
+fn spread(d: [f32; 4]) -> f32
+    ensures { λ r. ⌜ r ≡ spread d ⌝ }
+{
+    sanitise(largest(d) - least(d))
+}
+
+// How much of a spread fits between idle and 1.
+fn spread_scale(idle: f32, range: f32) -> f32
+    ensures { λ r. ⌜ r ≡ spreadScale idle range ⌝ }
+{
+    let span = 1.0 - idle;
+    pick(range > SMALL, pick(range > span, span / range, 1.0), 1.0)
+}
+
+// The collective and the scaled deltas, not yet moved to where they fit.
+fn unshifted(idle: f32, t: f32, d: [f32; 4]) -> [f32; 4]
+    ensures { λ m. ⌜ m ≡ unshifted idle t d ⌝ }
+{
+    let s = spread_scale(idle, spread(d));
+    [t + d[0] * s, t + d[1] * s, t + d[2] * s, t + d[3] * s]
+}
+
+// By how much all motors are moved: up to idle, or down to 1, or not at all.
+fn shift(idle: f32, lo: f32, hi: f32) -> f32
+    ensures { λ r. ⌜ r ≡ shift idle lo hi ⌝ }
+{
+    pick(lo < idle, idle - lo, pick(hi > 1.0, -(hi - 1.0), 0.0))
+}
+
+// All motors moved, and what still passes idle..1 cut. A shift of +0 is added too: it turns a -0 into +0.
+fn shifted(idle: f32, m: [f32; 4]) -> [f32; 4]
+    ensures { λ r. ⌜ r ≡ shifted idle m ⌝ }
+{
+    let by = shift(idle, least(m), largest(m));
+    [
+        clamp_floor(m[0] + by, idle),
+        clamp_floor(m[1] + by, idle),
+        clamp_floor(m[2] + by, idle),
+        clamp_floor(m[3] + by, idle),
+    ]
+}
+
+// The torque is kept and the collective moved, so that each motor stays in idle..1; only a torque wider than that range is scaled. The thrust is not lifted to
+// idle first.
+pub fn motors(torque_body: [f32; 3], thrust: f32, idle: f32) -> [f32; 4]
+    ensures { λ m. ⌜ m ≡ airmodeMotors quadRows «torque_body» thrust idle ⌝ }
+{
+    let t = limit(thrust);
+    let low = limit(idle);
+    shifted(low, unshifted(low, t, deltas(torque_body)))
+}

@@ -1,0 +1,15 @@
+-- `plain::lower` meets its contract: the choice is that of `loweredBy`. Assumes nothing.
+use borrow.Author.Needs.{needs}
+use Rattle.rules.specs.Plain.{loweredBy}
+use Rattle.plain.proofs.lower.Statement.{statement}
+use Rattle.plain.proofs.lower.Tie as tie
+
+pick-requires : tie.Need-pick-requires
+pick-requires c κs = search needs
+
+returns : tie.Need-returns
+unfolding loweredBy
+returns c = simp (c .pick .ensures)
+
+pub lower-spec : {M : Type 1} → statement M
+lower-spec = tie.close (tie.spec pick-requires returns)

@@ -1,0 +1,110 @@
+// The quad's mixer by value: a command goes in with a state, and the new state, whose motors are the answer, comes out.
+//
+// Follows relay-mix-quad's QuadMixer (Apache-2.0, see NOTICE); changed: written in Rattle with contracts; a method takes the state and gives the new one in the
+// place of changing it where it stands; how each mix comes to its motors stands in a crate of its own.
+//
+// What a mix answers is defined in the crate `rules`, and so are the promises that each contract ends with.
+ghost use mathlib.Core.Path.{_≡_};
+ghost use Rattle.binary32.specs.Arithmetic.{1f};
+ghost use Rattle.rules.specs.Rows.{quadRows};
+ghost use Rattle.rules.specs.Plain.{plainMotors};
+ghost use Rattle.rules.specs.ThrustFloor.{thrustFloorMotors, thrustFloorScale};
+ghost use Rattle.rules.specs.Priority.{priorityMotors};
+ghost use Rattle.rules.specs.Airmode.{airmodeMotors};
+ghost use Rattle.rules.specs.RotorOut.{rotorOutMotors};
+ghost use Rattle.rules.specs.Torque.{torqueOf};
+ghost use Rattle.rules.specs.Promises.{PlainKeeps, ThrustFloorKeeps, PriorityKeeps, AirmodeKeeps, RotorOutKeeps};
+ghost use Rattle.quad.specs.State.{state, fresh, Mixed};
+
+// The last motors, and the torque scale that the last thrust-floor or rotor-out recorded. The other mixes leave the scale as it is.
+#[repr(C)]
+pub struct QuadMixer {
+    pub last_motors: [f32; 4],
+    pub last_torque_scale: f32,
+}
+
+// Every new state is made here.
+fn state(motors: [f32; 4], scale: f32) -> QuadMixer
+    ensures { λ r. ⌜ r ≡ state motors scale ⌝ }
+{
+    QuadMixer {
+        last_motors: motors,
+        last_torque_scale: scale,
+    }
+}
+
+impl QuadMixer {
+    pub fn new() -> QuadMixer
+        ensures { λ r. ⌜ r ≡ fresh ⌝ }
+    {
+        state([0.0; 4], 1.0)
+    }
+
+    pub fn last_motors(self) -> [f32; 4]
+        ensures { λ r. ⌜ r ≡ self .«last_motors» ⌝ }
+    {
+        self.last_motors
+    }
+
+    // Plain: torque before thrust, and no idle floor, so that a motor may stop.
+    pub fn mix(self, torque_body: [f32; 3], thrust: f32) -> QuadMixer
+        ensures { λ r. ⌜ Mixed (plainMotors quadRows «torque_body» thrust) (self .«last_torque_scale») (λ motors scale. PlainKeeps «torque_body» thrust motors) r ⌝ }
+    {
+        state(plain::motors(torque_body, thrust), self.last_torque_scale)
+    }
+
+    // Thrust-floor: thrust before torque, each motor in floor..1. The scale that the torque was given at is recorded.
+    pub fn mix_thrust_floor(self, torque_body: [f32; 3], thrust: f32, floor: f32) -> QuadMixer
+        ensures { λ r. ⌜ Mixed (thrustFloorMotors quadRows «torque_body» thrust floor) (thrustFloorScale quadRows «torque_body» thrust floor) (ThrustFloorKeeps quadRows «torque_body» thrust floor) r ⌝ }
+    {
+        let m = thrust_floor::motors(torque_body, thrust, floor);
+        let motors = m.motors;
+        state(motors, m.scale)
+    }
+
+    pub fn last_torque_scale(self) -> f32
+        ensures { λ r. ⌜ r ≡ self .«last_torque_scale» ⌝ }
+    {
+        self.last_torque_scale
+    }
+
+    // Priority: thrust before roll and pitch, these before yaw, each motor in floor..1. No one number says what was given, so the recorded scale stays.
+    pub fn mix_priority(self, torque_body: [f32; 3], thrust: f32, floor: f32) -> QuadMixer
+        ensures { λ r. ⌜ Mixed (priorityMotors quadRows «torque_body» thrust floor) (self .«last_torque_scale») (λ motors scale. PriorityKeeps quadRows «torque_body» thrust floor motors) r ⌝ }
+    {
+        state(
+            priority::motors(torque_body, thrust, floor),
+            self.last_torque_scale,
+        )
+    }
+
+    // Airmode: torque before thrust, each motor in idle..1.
+    pub fn mix_airmode(self, torque_body: [f32; 3], thrust: f32, idle: f32) -> QuadMixer
+        ensures { λ r. ⌜ Mixed (airmodeMotors quadRows «torque_body» thrust idle) (self .«last_torque_scale») (λ motors scale. AirmodeKeeps quadRows «torque_body» thrust idle motors) r ⌝ }
+    {
+        state(
+            airmode::motors(torque_body, thrust, idle),
+            self.last_torque_scale,
+        )
+    }
+
+    // Rotor-out: a lost rotor 0 to 3 is +0, and every other motor is in floor..1. The recorded scale becomes 1: what is given is not one scale.
+    pub fn mix_rotor_out(
+        self,
+        failed: usize,
+        torque_body: [f32; 3],
+        thrust: f32,
+        floor: f32,
+    ) -> QuadMixer
+        ensures { λ r. ⌜ Mixed (rotorOutMotors failed «torque_body» thrust floor) 1f (λ motors scale. RotorOutKeeps failed floor motors) r ⌝ }
+    {
+        state(rotor_out::motors(failed, torque_body, thrust, floor), 1.0)
+    }
+}
+
+// Roll, pitch and yaw sums of the motors by the rows: the sums themselves, not their signs. Motors of any bits are taken as they are, so a sum may be a NaN.
+pub fn motors_to_torque_signs(motors: [f32; 4]) -> [f32; 3]
+    ensures { λ r. ⌜ r ≡ torqueOf quadRows motors ⌝ }
+{
+    rotors::torque::torque_of(motors)
+}

@@ -1,0 +1,140 @@
+// The mix for a lost rotor. Follows relay-mix-quad's `mix_rotor_out` (Apache-2.0, see NOTICE); changed: written in Rattle with contracts, with
+// choices in the place of branches and the loops over four motors written out.
+use number::clamp;
+use number::clamp_floor;
+use number::limit;
+use number::pick;
+use number::sanitise;
+use rotors::rows::MIXER_X;
+use solve::solve3;
+ghost use mathlib.Core.Path.{_≡_};
+ghost use mathlib.Core.Bool.{cond};
+ghost use mathlib.Core.List.{map};
+ghost use Prim.Native.Nat.{_<_};
+ghost use lib.Dec.{ltb};
+ghost use Rattle.rules.specs.Rows.{quadRows};
+ghost use Rattle.rules.specs.RotorOut.{tilt, tiltMotor, equations, placed, baseWithout, deltaWithout, motorWithout, motorsWithout, rotorOutMotors};
+
+// A torque this large is far outside flight; held to it, the three equations below never overflow.
+const TAU_BOUND: f32 = 8.0;
+
+// A roll or pitch torque as this mix takes it.
+fn tilt(x: f32) -> f32
+    ensures { λ r. ⌜ r ≡ tilt x ⌝ }
+{
+    clamp(sanitise(x), -TAU_BOUND, TAU_BOUND)
+}
+
+// A motor's command where no rotor is lost.
+fn tilt_motor(floor: f32, t: f32, r: f32, p: f32, row: [f32; 4]) -> f32
+    ensures { λ m. ⌜ m ≡ tiltMotor floor t r p row ⌝ }
+{
+    clamp_floor(sanitise(t + row[1] * r + row[2] * p), floor)
+}
+
+fn none_lost(floor: f32, t: f32, r: f32, p: f32) -> [f32; 4]
+    ensures { λ m. ⌜ m ≡ map (tiltMotor floor t r p) quadRows ⌝ }
+{
+    [
+        tilt_motor(floor, t, r, p, MIXER_X[0]),
+        tilt_motor(floor, t, r, p, MIXER_X[1]),
+        tilt_motor(floor, t, r, p, MIXER_X[2]),
+        tilt_motor(floor, t, r, p, MIXER_X[3]),
+    ]
+}
+
+// What the three healthy rotors have to give together: their sum, their roll, their pitch.
+fn equations(failed: usize) -> [[f32; 3]; 3]
+    requires { ⌜ failed < 4 ⌝ }
+    ensures { λ a. ⌜ a ≡ equations failed ⌝ }
+{
+    let h0 = (failed + 1) % 4;
+    let h1 = (failed + 2) % 4;
+    let h2 = (failed + 3) % 4;
+    [
+        [1.0, 1.0, 1.0],
+        [MIXER_X[h0][1], MIXER_X[h1][1], MIXER_X[h2][1]],
+        [MIXER_X[h0][2], MIXER_X[h1][2], MIXER_X[h2][2]],
+    ]
+}
+
+// The healthy rotors' three numbers at their places, the lost one's being 0.
+fn placed(failed: usize, x: [f32; 3]) -> [f32; 4]
+    requires { ⌜ failed < 4 ⌝ }
+    ensures { λ v. ⌜ v ≡ placed failed x ⌝ }
+{
+    let mut v: [f32; 4] = [0.0; 4];
+    v[(failed + 1) % 4] = x[0];
+    v[(failed + 2) % 4] = x[1];
+    v[(failed + 3) % 4] = x[2];
+    v
+}
+
+// The commands that give three times the thrust and no moment.
+fn base_without(failed: usize, t: f32) -> [f32; 4]
+    requires { ⌜ failed < 4 ⌝ }
+    ensures { λ b. ⌜ b ≡ baseWithout failed t ⌝ }
+{
+    let found = solve3(equations(failed), [3.0 * t, 0.0, 0.0]);
+    let x = found.x;
+    placed(failed, x)
+}
+
+// The commands that give roll and pitch and no thrust.
+fn delta_without(failed: usize, r: f32, p: f32) -> [f32; 4]
+    requires { ⌜ failed < 4 ⌝ }
+    ensures { λ d. ⌜ d ≡ deltaWithout failed r p ⌝ }
+{
+    let found = solve3(equations(failed), [0.0, r, p]);
+    let x = found.x;
+    placed(failed, x)
+}
+
+// A motor's command where a rotor is lost: the lost one's is +0.
+fn motor_without(failed: usize, floor: f32, s: f32, b: [f32; 4], d: [f32; 4], i: usize) -> f32
+    requires { ⌜ i < 4 ⌝ }
+    ensures { λ m. ⌜ m ≡ motorWithout failed floor s b d i ⌝ }
+{
+    pick(
+        i == failed,
+        0.0,
+        clamp_floor(sanitise(b[i] + s * d[i]), floor),
+    )
+}
+
+fn motors_without(failed: usize, floor: f32, b: [f32; 4], d: [f32; 4]) -> [f32; 4]
+    ensures { λ m. ⌜ m ≡ motorsWithout failed floor b d ⌝ }
+{
+    let s = fit::scale(&b, &d, floor);
+    [
+        motor_without(failed, floor, s, b, d, 0),
+        motor_without(failed, floor, s, b, d, 1),
+        motor_without(failed, floor, s, b, d, 2),
+        motor_without(failed, floor, s, b, d, 3),
+    ]
+}
+
+fn allotted(failed: usize, floor: f32, t: f32, r: f32, p: f32) -> [f32; 4]
+    ensures { λ m. ⌜ m ≡ cond (ltb failed 4) (motorsWithout failed floor (baseWithout failed t) (deltaWithout failed r p)) (map (tiltMotor floor t r p) quadRows) ⌝ }
+{
+    if failed >= 4 {
+        return none_lost(floor, t, r, p);
+    }
+    motors_without(
+        failed,
+        floor,
+        base_without(failed, t),
+        delta_without(failed, r, p),
+    )
+}
+
+// Rotor `failed`, 0 to 3, is lost and commanded +0; the other three share thrust, roll and pitch, and yaw is given up. With a number of 4 or more none is lost.
+pub fn motors(failed: usize, torque_body: [f32; 3], thrust: f32, floor: f32) -> [f32; 4]
+    ensures { λ m. ⌜ m ≡ rotorOutMotors failed «torque_body» thrust floor ⌝ }
+{
+    let t = limit(thrust);
+    let low = limit(floor);
+    let r = tilt(torque_body[0]);
+    let p = tilt(torque_body[1]);
+    allotted(failed, low, t, r, p)
+}

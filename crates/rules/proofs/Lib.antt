@@ -1,0 +1,16 @@
+pub mod Each
+pub mod Largest
+pub mod Clamp
+pub mod Lists
+pub mod Extremes
+pub mod Bounded
+pub mod Overflow
+pub mod Ordered
+pub mod FittingSum
+pub mod ThrustFloorFitting
+pub mod PriorityFitting
+pub mod AirmodeFitting
+pub mod Plain
+pub mod Keeps
+pub mod Examples
+pub mod Figures

@@ -1,0 +1,147 @@
+-- Document 01's claims on the plain mix ('The five quad mixes', 1), of any torque and thrust that binary32 holds: "Raw sums are never NaN here", "One raw
+-- +infinity makes all four 0", and "A finite largest over 1 and up to 2^24 ends exactly at 1". The last two are of any list of raw sums. Assumes nothing.
+use mathlib.Core.Path.{_≡_, refl, sym, ap, _∙_, subst}
+use mathlib.Core.Bool.{Bool, true, false, not, cond, _||_}
+use mathlib.Core.List.{List, [], _∷_, map}
+use Prim.Native.Nat.{ℕ, zero, suc}
+use lib.Dec.{T}
+use lib.ListN.{getD}
+use lib.Ieee.{Float, nan, inf, fin, binary32, fits, isNan, lt, le, eq, neg, add, sub, ofBits}
+use lib.Ieee.Fits.{add-fits, nan-fits}
+use lib.Ieee.Scale.{finite}
+use Rattle.binary32.specs.Arithmetic.{_*f_, 0f, 1f}
+use Rattle.binary32.specs.Range.{Between}
+use Rattle.binary32.proofs.Magnitude.{Number, Finite, finite-number}
+use Rattle.binary32.proofs.Operations.{add-number}
+use Rattle.binary32.proofs.Products.{unit, one-is-unit, one-product-finite, minus-one-product-finite}
+use Rattle.binary32.proofs.Range.{zero-finite, one-number, le-number}
+use Rattle.binary32.proofs.LessOne.{endOf, back-to-one}
+use Rattle.number.specs.Treat.{treated, clamped, floorClamp}
+use Rattle.rules.specs.Rows.{Row, thrustOf, rollOf, pitchOf, yawOf, -1f, quadRows}
+use Rattle.rules.specs.Command.{roll, pitch, yaw}
+use Rattle.rules.specs.Extremes.{largest}
+use Rattle.rules.specs.Plain.{rawSum, rawSums, loweredBy, lowered, plainMotors}
+use Rattle.rules.specs.Promises.{Each, wholeEnd}
+use Rattle.rules.proofs.Each.{each-map, map-at}
+use Rattle.rules.proofs.Largest.{NoNan, largest-infinite}
+
+-- ---- a treated number is finite
+
+treated-finite : (x : Float) → T (fits binary32 x) → Finite binary32 (treated x)
+unfolding treated
+treated-finite x h = go (finite x) refl
+  where
+    go : (b : Bool) → finite x ≡ b → Finite binary32 (cond b x 0f)
+    go true e = record { fits = h; finite = rw e tt }
+    go false e = zero-finite
+
+-- ---- a factor of a row, 1 or -1, keeps a finite number finite
+
+record Steady (u : Float) : Type 0 where
+  keeps : (x : Float) → Finite binary32 x → Finite binary32 (u *f x)
+
+plus : Steady 1f
+plus = record { keeps = λ x h. rw one-is-unit (one-product-finite h) }
+
+minus-one-is : -1f ≡ neg unit
+unfolding neg ofBits
+minus-one-is = refl
+
+minus : Steady -1f
+minus = record { keeps = λ x h. rw minus-one-is (minus-one-product-finite h) }
+
+record SteadyRow (row : Row) : Type 0 where
+  thrust : Steady (thrustOf row)
+  roll : Steady (rollOf row)
+  pitch : Steady (pitchOf row)
+  yaw : Steady (yawOf row)
+
+steady : {a b c d : Float} → Steady a → Steady b → Steady c → Steady d → SteadyRow (a ∷ b ∷ c ∷ d ∷ [])
+steady a b c d = record { thrust = a; roll = b; pitch = c; yaw = d }
+
+quad-steady : Each SteadyRow quadRows
+unfolding quadRows
+quad-steady = (steady plus minus plus minus, (steady plus minus minus plus, (steady plus plus minus minus, (steady plus plus plus plus, tt))))
+
+-- ---- no raw sum is a NaN: the products are finite, and a finite number added to a number gives a number
+
+sum-number : {t r p y : Float} (row : Row) → Finite binary32 t → Finite binary32 r → Finite binary32 p → Finite binary32 y → SteadyRow row
+    → Number binary32 (rawSum t r p y row)
+unfolding rawSum
+sum-number {t} {r} {p} {y} row ht hr hp hy s =
+    add-number (add-number (add-number (finite-number (s .thrust .keeps t ht)) (s .roll .keeps r hr)) (s .pitch .keeps p hp)) (s .yaw .keeps y hy)
+
+pub plain-no-nan : (torque : List Float) (thrust : Float) → ((k : ℕ) → T (fits binary32 (getD torque k nan))) → T (fits binary32 thrust)
+    → Each (λ x. T (not (isNan x))) (rawSums quadRows torque thrust)
+unfolding rawSums
+plain-no-nan torque thrust hs ht =
+    let torque-finite : (k : ℕ) → Finite binary32 (treated (getD torque k nan)) = λ k. treated-finite (getD torque k nan) (hs k) in
+    each-map SteadyRow NoNan (rawSum (treated thrust) (roll torque) (pitch torque) (yaw torque))
+    (λ row s. sum-number row (treated-finite thrust ht) (torque-finite 0) (torque-finite 1) (torque-finite 2) s .number)
+    quadRows quad-steady
+
+-- ---- one raw +infinity makes all of them 0: largest - 1 is +infinity, and what it is taken from is no longer finite
+
+lowered-by-infinity : (x : Float) → floorClamp (loweredBy (inf false) x) 0f ≡ 0f
+unfolding loweredBy floorClamp lt sub add neg ofBits
+lowered-by-infinity nan = refl
+lowered-by-infinity (inf true) = refl
+lowered-by-infinity (inf false) = refl
+lowered-by-infinity (fin s m e) = refl
+
+-- of any raw sums, none a NaN
+pub lowered-overflowed : (xs : List Float) → Each NoNan xs → (i : ℕ) → getD xs i nan ≡ inf false → Each (λ m. m ≡ 0f) (map (λ x. floorClamp x 0f) (lowered xs))
+unfolding lowered
+lowered-overflowed xs w i e =
+    let most = largest-infinite xs w i e in
+    each-map (λ x. floorClamp x 0f ≡ 0f) (λ m. m ≡ 0f) (λ x. floorClamp x 0f) (λ x h. h) (map (loweredBy (largest xs)) xs)
+    (each-map NoNan (λ x. floorClamp x 0f ≡ 0f) (loweredBy (largest xs)) (λ x n. ap (λ (l : Float). floorClamp (loweredBy l x) 0f) most ∙ lowered-by-infinity x) xs w)
+
+pub plain-overflowed : (torque : List Float) (thrust : Float) → ((k : ℕ) → T (fits binary32 (getD torque k nan))) → T (fits binary32 thrust)
+    → (i : ℕ) → getD (rawSums quadRows torque thrust) i nan ≡ inf false → Each (λ m. m ≡ 0f) (plainMotors quadRows torque thrust)
+unfolding plainMotors
+plain-overflowed torque thrust hs ht = lowered-overflowed (rawSums quadRows torque thrust) (plain-no-nan torque thrust hs ht)
+
+-- ---- a largest over 1 and up to 2 ^ 24 ends at 1: 1 is taken from it exactly
+
+end-is : wholeEnd ≡ endOf binary32
+unfolding ofBits
+end-is = refl
+
+over-one-up-to-end : {most : Float} → lt 1f most ≡ true → le most wholeEnd ≡ true → Between unit (endOf binary32) most
+unfolding le
+over-one-up-to-end {most} l h = record {
+  from = ap (λ (u : Float). le u most) (sym one-is-unit) ∙ ap (λ (b : Bool). b || eq 1f most) l;
+  to = ap (le most) (sym end-is) ∙ h;
+}
+
+largest-lowered : (most : Float) → T (fits binary32 most) → lt 1f most ≡ true → le most wholeEnd ≡ true → loweredBy most most ≡ 1f
+unfolding loweredBy
+largest-lowered most held l h = rw (l, one-is-unit) (back-to-one binary32 held (over-one-up-to-end l h))
+
+one-kept : floorClamp 1f 0f ≡ 1f
+unfolding floorClamp clamped lt ofBits
+one-kept = refl
+
+-- of any raw sums that binary32 holds: each that is the largest
+pub lowered-to-one : (xs : List Float) → ((k : ℕ) → T (fits binary32 (getD xs k nan))) → lt 1f (largest xs) ≡ true → le (largest xs) wholeEnd ≡ true
+    → (i : ℕ) → getD xs i nan ≡ largest xs → getD (map (λ x. floorClamp x 0f) (lowered xs)) i nan ≡ 1f
+unfolding lowered
+lowered-to-one xs hs l h i e =
+    let most = largest xs in
+    let held : T (fits binary32 most) = subst (λ (x : Float). T (fits binary32 x)) e (hs i) in
+    let one = map-at (loweredBy most) xs i e (le-number most wholeEnd h) ∙ largest-lowered most held l h in
+    map-at (λ x. floorClamp x 0f) (map (loweredBy most) xs) i one (one-number .number) ∙ one-kept
+
+-- a raw sum is one of binary32's numbers, whatever is summed
+sums-fit : (rows : List Row) (torque : List Float) (thrust : Float) (k : ℕ) → T (fits binary32 (getD (rawSums rows torque thrust) k nan))
+unfolding rawSums rawSum
+sums-fit [] torque thrust k = nan-fits binary32
+sums-fit (row ∷ rows) torque thrust zero = add-fits binary32 _ _
+sums-fit (row ∷ rows) torque thrust (suc k) = sums-fit rows torque thrust k
+
+pub plain-to-one : (torque : List Float) (thrust : Float)
+    → lt 1f (largest (rawSums quadRows torque thrust)) ≡ true → le (largest (rawSums quadRows torque thrust)) wholeEnd ≡ true
+    → (i : ℕ) → getD (rawSums quadRows torque thrust) i nan ≡ largest (rawSums quadRows torque thrust) → getD (plainMotors quadRows torque thrust) i nan ≡ 1f
+unfolding plainMotors
+plain-to-one torque thrust = lowered-to-one (rawSums quadRows torque thrust) (sums-fit quadRows torque thrust)

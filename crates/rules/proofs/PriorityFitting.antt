@@ -1,0 +1,74 @@
+-- The priority mix's `fitting`: where each rotor's two groups fit in both orders, both scales are exactly 1, the yaw's and then the roll/pitch's, so that each
+-- motor is the collective plus roll/pitch plus yaw, rounded at each sum. Assumes nothing.
+use mathlib.Core.Path.{_≡_}
+use mathlib.Core.List.{List, map, map-map}
+use lib.Dec.{T}
+use lib.Ieee.{Float, binary32, fits}
+use lib.Ieee.Fits.{add-fits, mul-fits}
+use Rattle.binary32.specs.Arithmetic.{_+f_, _*f_, 1f}
+use Rattle.number.specs.Treat.{limited}
+use Rattle.rules.specs.Rows.{Row, rollOf, pitchOf, yawOf}
+use Rattle.rules.specs.Command.{roll, pitch, yaw, collective}
+use Rattle.rules.specs.Priority.{yawGroup, rollPitchGroup, yawScale, rollPitchScale, priorityMotor, priorityMotors}
+use Rattle.rules.specs.Promises.{Each, FitsBothOrders}
+use Rattle.rules.proofs.Clamp.{Floor, limited-floor, treated-fits}
+use Rattle.rules.proofs.FittingSum.{scale-one-first, fitting-sum, fitting-scale}
+use Rattle.rules.proofs.Lists.{each-same}
+
+-- ---- the two scales, and one motor
+
+module _ (torque : List Float) (thrust floor : Float) (hf : T (fits binary32 floor)) where
+  abbrev lo : Float
+  lo = limited floor
+
+  abbrev base : Float
+  base = collective thrust floor
+
+  abbrev rp : Row → Float
+  rp = rollPitchGroup (roll torque) (pitch torque)
+
+  abbrev y : Row → Float
+  y = yawGroup (yaw torque)
+
+  abbrev Fitting : Row → Type 0
+  Fitting row = FitsBothOrders floor base (rp row) (y row)
+
+  roll-pitch-fits : (row : Row) → T (fits binary32 (rp row))
+  unfolding rollPitchGroup
+  roll-pitch-fits row = treated-fits _ (add-fits binary32 (rollOf row *f roll torque) (pitchOf row *f pitch torque))
+
+  yaw-fits : (row : Row) → T (fits binary32 (y row))
+  unfolding yawGroup
+  yaw-fits row = treated-fits _ (mul-fits binary32 (yawOf row) (yaw torque))
+
+  lo-floor : Floor lo
+  lo-floor = limited-floor floor hf
+
+  yaw-scale : (rows : List Row) → Each Fitting rows → yawScale lo base (map rp rows) (map y rows) ≡ 1f
+  unfolding yawScale
+  yaw-scale rows w =
+      rw map-map (fitting-scale lo-floor Fitting (λ row. base +f rp row) y (λ row. add-fits binary32 base (rp row)) yaw-fits (λ row v. v .yawLast) rows w)
+
+  roll-pitch-scale : (rows : List Row) → Each Fitting rows → rollPitchScale lo base 1f (map rp rows) (map y rows) ≡ 1f
+  unfolding rollPitchScale
+  roll-pitch-scale rows w =
+      rw map-map
+      (fitting-scale lo-floor Fitting (λ row. base +f 1f *f y row) rp (λ row. add-fits binary32 base (1f *f y row)) roll-pitch-fits
+      (λ row v. rw (scale-one-first (y row) (yaw-fits row)) (v .rollPitchLast)) rows w)
+
+  fitting-motor : (row : Row) → Fitting row → priorityMotor lo base 1f 1f (rp row) (y row) ≡ base +f rp row +f y row
+  unfolding priorityMotor
+  fitting-motor row v =
+      rw (scale-one-first (rp row) (roll-pitch-fits row), scale-one-first (y row) (yaw-fits row))
+      (fitting-sum lo-floor (add-fits binary32 base (rp row)) (yaw-fits row) (v .yawLast) .kept)
+
+-- ---- the mix; nothing is asked of the thrust
+
+pub priority-fitting : (rows : List Row) (torque : List Float) (thrust floor : Float) → T (fits binary32 floor)
+    → Each (λ row. FitsBothOrders floor (collective thrust floor) (rollPitchGroup (roll torque) (pitch torque) row) (yawGroup (yaw torque) row)) rows
+    → priorityMotors rows torque thrust floor
+    ≡ map (λ row. collective thrust floor +f rollPitchGroup (roll torque) (pitch torque) row +f yawGroup (yaw torque) row) rows
+unfolding priorityMotors
+priority-fitting rows torque thrust floor hf w =
+    rw (yaw-scale torque thrust floor hf rows w, roll-pitch-scale torque thrust floor hf rows w)
+    (each-same _ _ _ (fitting-motor torque thrust floor hf) rows w)

@@ -1,0 +1,11 @@
+pub mod Rows
+pub mod Command
+pub mod Extremes
+pub mod Plain
+pub mod ThrustFloor
+pub mod Priority
+pub mod Airmode
+pub mod RotorOut
+pub mod Torque
+pub mod Promises
+pub mod Figures

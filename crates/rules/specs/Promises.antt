@@ -1,0 +1,100 @@
+-- What the mixes promise of their motors (demand 3, and document 01's claims on plain), in words that each is said in once. Here `motors` and `scale` are what a
+-- function answers, and a frame is any list of rows. Definitions only.
+use mathlib.Core.Path.{_≡_}
+use mathlib.Core.Bool.{true, false, not}
+use mathlib.Core.List.{List, [], _∷_, map}
+use Prim.Native.Nat.{ℕ, _<_}
+use lib.Dec.{T}
+use lib.ListN.{getD}
+use lib.Ieee.{Float, nan, inf, binary32, lt, le, eq, isNan, ofBits}
+use Rattle.binary32.specs.Arithmetic.{_+f_, 0f, 1f}
+use Rattle.binary32.specs.Rounding.{rounding}
+use Rattle.binary32.specs.Range.{Between, exactSum, SumWithin}
+use Rattle.number.specs.Treat.{limited}
+use Rattle.fit.specs.Fit.{EachMotor}
+use Rattle.rules.specs.Rows.{Row, quadRows}
+use Rattle.rules.specs.Command.{roll, pitch, yaw, collective, deltas}
+use Rattle.rules.specs.Extremes.{largest}
+use Rattle.rules.specs.Plain.{rawSums}
+use Rattle.rules.specs.Priority.{yawGroup, rollPitchGroup}
+
+-- ---- the words
+
+-- P holds of each
+abbrev pub Each : {A : Type 0} → (A → Type 0) → List A → Type 0
+Each P [] = Unit {0}
+Each P (x ∷ xs) = P x × Each P xs
+
+-- bounded: "each motor [...] lies between the floor, first limited to 0..1 (non-finite: 0), and 1"
+abbrev pub Bounded : Float → List Float → Type 0
+Bounded floor motors = Each (Between (limited floor) 1f) motors
+
+-- each lies in 0..1, so none is a NaN
+abbrev pub InUnit : List Float → Type 0
+InUnit motors = Each (Between 0f 1f) motors
+
+-- m is the exact sum of x and y "rounded once, zero's sign aside"
+abbrev pub SumRounded : Float → Float → Float → Type 0
+SumRounded x y m = eq m (rounding binary32 (exactSum x y) 1) ≡ true
+
+-- the command fits: "the mix's collective plus each delta, taken exactly, lies in that range"
+abbrev pub Fits : Float → Float → List Float → Type 0
+Fits floor base ds = Each (SumWithin (limited floor) 1f base) ds
+
+-- ordered: "a larger delta never gets a smaller motor". (Past the end of a list stands a NaN, which is in order with nothing.)
+abbrev pub Ordered : List Float → List Float → Type 0
+Ordered ds motors = (i j : ℕ) → le (getD ds i nan) (getD ds j nan) ≡ true → le (getD motors i nan) (getD motors j nan) ≡ true
+
+-- ---- the mixes
+
+pub record ThrustFloorKeeps (rows : List Row) (torque : List Float) (thrust floor : Float) (motors : List Float) (scale : Float) : Type 0 where
+  pub bounded : Bounded floor motors
+  pub unit : InUnit motors
+  pub scaled : Between 0f 1f scale
+  pub fitting : Fits floor (collective thrust floor) (deltas rows torque)
+      → EachMotor (SumRounded (collective thrust floor)) (deltas rows torque) motors × (scale ≡ 1f)
+  pub ordered : Ordered (deltas rows torque) motors
+
+-- a rotor's two groups fit in both orders: "collective plus one torque group, rounded, then plus the other exactly, lies there for both orders"
+pub record FitsBothOrders (floor base : Float) (rollPitch yaw : Float) : Type 0 where
+  pub yawLast : SumWithin (limited floor) 1f (base +f rollPitch) yaw
+  pub rollPitchLast : SumWithin (limited floor) 1f (base +f yaw) rollPitch
+
+pub record PriorityKeeps (rows : List Row) (torque : List Float) (thrust floor : Float) (motors : List Float) : Type 0 where
+  pub bounded : Bounded floor motors
+  pub unit : InUnit motors
+  -- "each motor is collective plus roll/pitch plus yaw, rounded at each sum"
+  pub fitting : Each
+      (λ row. FitsBothOrders floor (collective thrust floor) (rollPitchGroup (roll torque) (pitch torque) row) (yawGroup (yaw torque) row))
+      rows
+      → motors ≡ map (λ row. collective thrust floor +f rollPitchGroup (roll torque) (pitch torque) row +f yawGroup (yaw torque) row) rows
+
+pub record AirmodeKeeps (rows : List Row) (torque : List Float) (thrust idle : Float) (motors : List Float) : Type 0 where
+  pub bounded : Bounded idle motors
+  pub unit : InUnit motors
+  pub fitting : Fits idle (limited thrust) (deltas rows torque) → EachMotor (SumRounded (limited thrust)) (deltas rows torque) motors
+
+pub record RotorOutKeeps (failed : ℕ) (floor : Float) (motors : List Float) : Type 0 where
+  -- "a lost rotor 0 to 3 being +0"
+  pub lost : failed < 4 → getD motors failed nan ≡ 0f
+  -- every other one of the four is bounded: all four where the rotor number is 4 or more
+  pub healthy : (i : ℕ) → i < 4 → (i ≡ failed → ⊥) → Between (limited floor) 1f (getD motors i nan)
+  pub unit : InUnit motors
+
+-- 2 ^ 24
+abbrev pub wholeEnd : Float
+wholeEnd = ofBits binary32 0x4b80_0000
+
+-- plain, on the quad: document 01's claims in 'The five quad mixes', 1
+pub record PlainKeeps (torque : List Float) (thrust : Float) (motors : List Float) : Type 0 where
+  pub unit : InUnit motors
+  -- "Raw sums are never NaN here."
+  pub noNan : Each (λ x. T (not (isNan x))) (rawSums quadRows torque thrust)
+  -- "One raw +infinity makes all four 0."
+  pub overflowed : (i : ℕ) → getD (rawSums quadRows torque thrust) i nan ≡ inf false → Each (λ m. m ≡ 0f) motors
+  -- "A finite largest over 1 and up to 2^24 ends exactly at 1."
+  pub toOne : lt 1f (largest (rawSums quadRows torque thrust)) ≡ true
+      → le (largest (rawSums quadRows torque thrust)) wholeEnd ≡ true
+      → (i : ℕ)
+      → getD (rawSums quadRows torque thrust) i nan ≡ largest (rawSums quadRows torque thrust)
+      → getD motors i nan ≡ 1f

@@ -1,0 +1,15 @@
+-- The torque that motors give by the rows (document 01, 'Any airframe': `motors_to_torque_signs`, "which returns sums and not signs"). Definitions only.
+use mathlib.Core.List.{List, [], _∷_}
+use lib.Ieee.{Float}
+use Rattle.binary32.specs.Arithmetic.{_+f_, _*f_, 0f}
+use Rattle.rules.specs.Rows.{Row, rollOf, pitchOf, yawOf}
+
+-- one column's products with the motors, added to s in order
+unfoldable pub summed : (Row → Float) → Float → List Row → List Float → Float
+summed column s [] ms = s
+summed column s (row ∷ rows) [] = s
+summed column s (row ∷ rows) (m ∷ ms) = summed column (s +f column row *f m) rows ms
+
+-- roll, pitch and yaw, each sum from +0 on
+unfoldable pub torqueOf : List Row → List Float → List Float
+torqueOf rows motors = summed rollOf 0f rows motors ∷ summed pitchOf 0f rows motors ∷ summed yawOf 0f rows motors ∷ []

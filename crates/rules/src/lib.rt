@@ -1,0 +1,1 @@
+// The rules of the mixes (document 01, 'The five quad mixes') as definitions over any count of rotors, and the laws about them. No code: see specs/ and proofs/.

@@ -1,0 +1,15 @@
+-- `thrust_floor::scaled_motor` meets its contract: the floor clamp is that of `scaledMotor`. Assumes nothing.
+use borrow.Author.Needs.{needs}
+use Rattle.rules.specs.ThrustFloor.{scaledMotor}
+use Rattle.thrust_floor.proofs.scaled_motor.Statement.{statement}
+use Rattle.thrust_floor.proofs.scaled_motor.Tie as tie
+
+clamp-floor-requires : tie.Need-clamp-floor-requires
+clamp-floor-requires c κs = search needs
+
+returns : tie.Need-returns
+unfolding scaledMotor
+returns c = simp (c .clamp-floor .ensures)
+
+pub scaled-motor-spec : {M : Type 1} → statement M
+scaled-motor-spec = tie.close (tie.spec clamp-floor-requires returns)
