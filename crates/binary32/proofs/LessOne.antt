@@ -6,7 +6,6 @@ use Prim.Native.Nat.{ℕ, _+_, _-_, _*_, _^_, _≤_, _<_}
 use native.Mathlib.Nat.{mul-assoc, one-mul, div-one, le-of-mul-le-mul-right}
 use native.Mathlib.Decide.{decLe}
 use native.Mathlib.Omega.{arith}
-use borrow.Author.Tests.{leb-true}
 use lib.Dec.{T}
 use lib.Pow.{pow-pos}
 use lib.IntN.{pos}
@@ -15,7 +14,7 @@ use lib.Ieee.Scale.{overflow}
 use Rattle.binary32.specs.Whole.{negative, magnitude, over, under}
 use Rattle.binary32.specs.Range.{Between}
 use Rattle.binary32.proofs.Magnitude.{Finite, finite-number, finite-under, pow-split}
-use Rattle.binary32.proofs.Order.{le-whole}
+use Rattle.binary32.proofs.Comparison.{le-units}
 use Rattle.binary32.proofs.RoundedSize.{Short, short, over-positive, under-positive}
 use Rattle.binary32.proofs.Positive.{positive}
 use Rattle.binary32.proofs.Rounded.{Rounded, Exactly, exactly, times-difference, by-difference, own-rounding, same-rounded}
@@ -79,10 +78,10 @@ module _ (f : Format) {x : Float} (held : T (fits f x)) (b : Between unit (endOf
   number = record { fits = held; finite = between-finite (unit-finite f .finite) (end-finite f .finite) b }
 
   from : over f unit + under f x ≤ over f x + under f unit
-  from = leb-true _ _ (sym (le-whole (finite-number (unit-finite f)) (finite-number number)) ∙ b .from)
+  from = le-units (finite-number (unit-finite f)) (finite-number number) (b .from)
 
   to : over f x + under f (endOf f) ≤ over f (endOf f) + under f x
-  to = leb-true _ _ (sym (le-whole (finite-number number) (finite-number (end-finite f))) ∙ b .to)
+  to = le-units (finite-number number) (finite-number (end-finite f)) (b .to)
 
   plus : negative x ≡ false
   plus = positive (finite-number number) (omega (arith, from, over-unit f, under-unit f, pow-pos (low f))) .plus

@@ -1,6 +1,7 @@
 pub mod Tests
 pub mod Magnitude
 pub mod Order
+pub mod Comparison
 pub mod RoundedSize
 pub mod Positive
 pub mod Rounded
@@ -10,4 +11,5 @@ pub mod Products
 pub mod Exact
 pub mod Absolute
 pub mod Range
+pub mod Overflow
 pub mod LessOne

@@ -1,4 +1,5 @@
--- A product by 1 is the value itself, by bits, and one by -1 has its size. A product by a factor in 0..1 is no larger in size, and keeps the order. Assumes nothing.
+-- A product by 1 is the value itself, by bits, and one by -1 has its size. A product by a factor in 0..1 is no larger in size, and keeps the order.
+-- Assumes nothing.
 use mathlib.Core.Path.{_≡_, refl, sym, _∙_, subst₂}
 use Prim.Native.Nat.{ℕ, _+_, _-_, _*_, _^_, _≤_}
 use native.Mathlib.Nat.{mul-sub, mul-comm, mul-one, one-mul, zero-mul, mul-add, add-mul, div-one, mul-le-mul-right, mul-le-mul-left}

@@ -1,11 +1,10 @@
 -- The laws of `specs/Range.antt`. What lies between two finite numbers is finite; at binary32, a number that lies in 0..1 is a factor by which a product
 -- gets no larger; and that an exact sum lies in a range, said over natural numbers. Assumes nothing.
-use mathlib.Core.Path.{_≡_, refl, sym, ap, _∙_}
-use mathlib.Core.Bool.{Bool, true, false, not, false≢true}
+use mathlib.Core.Path.{_≡_, refl, ap, _∙_}
+use mathlib.Core.Bool.{Bool, true, false, false≢true}
 use Prim.Native.Nat.{_+_, _^_, _≤_}
 use native.Mathlib.Nat.{le-of-eq, le-trans}
 use native.Mathlib.Omega.{arith}
-use borrow.Author.Tests.{leb-true}
 use lib.Dec.{T}
 use lib.Ieee.{Float, nan, inf, fin, Format, binary32, low, fits, isNan, le, ofBits}
 use lib.Ieee.Bits.{ofBits-fits}
@@ -14,7 +13,7 @@ use Rattle.binary32.specs.Arithmetic.{0f, 1f}
 use Rattle.binary32.specs.Whole.{negative, magnitude, over, under}
 use Rattle.binary32.specs.Range.{Between, exactSum, SumWithin}
 use Rattle.binary32.proofs.Magnitude.{Number, Finite, finite-number}
-use Rattle.binary32.proofs.Order.{le-whole}
+use Rattle.binary32.proofs.Comparison.{le-number, le-units}
 use Rattle.binary32.proofs.RoundedSize.{over-negative, under-positive}
 use Rattle.binary32.proofs.Integers.{Difference, whole-difference, sum-of, order-of}
 use Rattle.binary32.proofs.Products.{Factor, one-is-unit, over-unit}
@@ -42,14 +41,6 @@ zero-over = refl
 pub zero-under : under binary32 0f ≡ 0
 unfolding under negative ofBits
 zero-under = refl
-
--- ---- what is compared and found in order is a number
-
-pub le-number : (x y : Float) → le x y ≡ true → T (not (isNan x))
-unfolding le isNan
-le-number nan y h = absurd (false≢true h)
-le-number (inf s) y h = tt
-le-number (fin s m e) y h = tt
 
 -- ---- what lies between two finite numbers is finite
 
@@ -84,8 +75,8 @@ not-negative f s h = go (negative s) refl
 pub factor : {s : Float} → T (fits binary32 s) → Between 0f 1f s → Factor binary32 s
 factor {s} h b =
     let n : Number binary32 s = record { fits = h; number = le-number s 1f (b .to) } in
-    let low-end : over binary32 0f + under binary32 s ≤ over binary32 s + under binary32 0f = leb-true _ _ (sym (le-whole zero-number n) ∙ b .from) in
-    let high-end : over binary32 s + under binary32 1f ≤ over binary32 1f + under binary32 s = leb-true _ _ (sym (le-whole n one-number) ∙ b .to) in
+    let low-end : over binary32 0f + under binary32 s ≤ over binary32 s + under binary32 0f = le-units zero-number n (b .from) in
+    let high-end : over binary32 s + under binary32 1f ≤ over binary32 1f + under binary32 s = le-units n one-number (b .to) in
     let from : under binary32 s ≡ 0 = not-negative binary32 s (omega (arith, zero-over, zero-under)) in
     let to : over binary32 s ≤ over binary32 1f = omega arith in
     let most : over binary32 s ≤ 2 ^ low binary32 = le-trans to (le-of-eq (ap (over binary32) one-is-unit ∙ over-unit binary32)) in

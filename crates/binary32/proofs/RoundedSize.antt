@@ -5,7 +5,6 @@ use Prim.Native.Nat.{ℕ, zero, suc, _+_, _*_, _/_, _^_, _≤_, _<_}
 use native.Mathlib.Nat.{mul-assoc, one-mul, zero-mul, mul-pos, mul-le-mul-right}
 use native.Mathlib.Omega.{arith}
 use mathlib.Core.Bool.{Bool, true, false, not, cond}
-use borrow.Author.Tests.{leb-true}
 use lib.Dec.{T, ltb}
 use lib.Pow.{pow-pos}
 use lib.Ieee.{Float, inf, Format, prec, low, isNan, odd, units, round, le}
@@ -17,7 +16,7 @@ use lib.Ieee.Scale.{grid, overflow, round-same}
 use Rattle.binary32.specs.Whole.{negative, magnitude, over, under}
 use Rattle.binary32.proofs.Tests.{round-nothing}
 use Rattle.binary32.proofs.Magnitude.{Number, Finite, by-finite, held, multiple, magnitude-of, magnitude-shifted, finite-under}
-use Rattle.binary32.proofs.Order.{le-whole}
+use Rattle.binary32.proofs.Comparison.{le-units}
 
 -- ---- what `round` gives: a number with the sign that it was handed, of a size that does not turn on that sign
 
@@ -113,9 +112,8 @@ rounded-mono f a c b d C D h =
     let sx = round-negative f false a (c * L) in
     let sy = round-negative f false b (d * L) in
     let in-order : over f x + under f y ≤ over f y + under f x =
-    leb-true (over f x + under f y) (over f y + under f x)
-    (sym (le-whole (round-number f false a (c * L)) (round-number f false b (d * L)))
-    ∙ is-true (le x y) (round-mono f a (c * L) b (d * L) (mul-pos C (pow-pos (low f))) (mul-pos D (pow-pos (low f))) wide)) in
+    le-units (round-number f false a (c * L)) (round-number f false b (d * L))
+    (is-true (le x y) (round-mono f a (c * L) b (d * L) (mul-pos C (pow-pos (low f))) (mul-pos D (pow-pos (low f))) wide)) in
     omega (arith, over-positive f x sx, under-positive f x sx, over-positive f y sy, under-positive f y sy)
 
 -- ---- a size of few digits rounds to itself

@@ -1,20 +1,16 @@
 -- The fit scale lies in 0..1, whatever the bases, the deltas and the floor are: the walk starts at 1 and only ever takes something smaller, which is no
 -- NaN since it was found smaller, and its end turns what is under 0 or not finite into +0. Assumes nothing.
-use mathlib.Core.Path.{_≡_, refl, sym, _∙_}
-use mathlib.Core.Bool.{Bool, true, false, not, _&&_, _||_, cond, false≢true}
+use mathlib.Core.Path.{_≡_, refl}
+use mathlib.Core.Bool.{Bool, true, false, not, _&&_, _||_, cond}
 use mathlib.Core.List.{List, [], _∷_}
-use Prim.Native.Nat.{_+_, _≤_, _<_}
-use native.Mathlib.Omega.{arith}
-use borrow.Author.Tests.{ltb-true, ltb-false, le-leb}
 use lib.Dec.{T}
-use lib.Ieee.{Float, nan, inf, fin, binary32, fits, isNan, lt, le, eq, neg, ofBits}
+use lib.Ieee.{Float, binary32, fits, lt, le, eq, neg, ofBits}
 use lib.Ieee.Fits.{div-fits, cond-fits}
 use lib.Ieee.Scale.{finite}
 use Rattle.binary32.specs.Arithmetic.{_-f_, _/f_, 0f, 1f, small}
-use Rattle.binary32.specs.Whole.{over, under}
 use Rattle.binary32.specs.Range.{Between}
 use Rattle.binary32.proofs.Magnitude.{Number}
-use Rattle.binary32.proofs.Order.{lt-whole, le-whole}
+use Rattle.binary32.proofs.Comparison.{less-le, le-number, le-refl, le-trans, not-under}
 use Rattle.binary32.proofs.Range.{zero-finite, zero-number, one-number}
 use Rattle.fit.specs.Fit.{limits, motorLimit, tightened, walk, settled, fitScale}
 
@@ -22,17 +18,10 @@ use Rattle.fit.specs.Fit.{limits, motorLimit, tightened, walk, settled, 
 
 pub record Held (s : Float) : Type 0 where
   pub number : Number binary32 s
-  pub most : over binary32 s + under binary32 1f ≤ over binary32 1f + under binary32 s
+  pub most : le s 1f ≡ true
 
 one-held : Held 1f
-one-held = record { number = one-number; most = omega arith }
-
--- what is smaller than something is a number
-smaller-number : (x y : Float) → lt x y ≡ true → T (not (isNan x))
-unfolding lt isNan
-smaller-number nan y h = absurd (false≢true h)
-smaller-number (inf s) y h = tt
-smaller-number (fin s m e) y h = tt
+one-held = record { number = one-number; most = le-refl one-number }
 
 limit-fits : (floor b d : Float) → T (fits binary32 (motorLimit floor b d))
 unfolding motorLimit
@@ -51,10 +40,8 @@ step-held floor s b d h = go (limits d) (lt (motorLimit floor b d) s) refl
     go false q e = h
     go true false e = h
     go true true e =
-        let n : Number binary32 l = record { fits = limit-fits floor b d; number = smaller-number l s e } in
-        let less : over binary32 l + under binary32 s < over binary32 s + under binary32 l = ltb-true _ _ (sym (lt-whole n (h .number)) ∙ e) in
-        let most = h .most in
-        record { number = n; most = omega arith }
+        let n : Number binary32 l = record { fits = limit-fits floor b d; number = le-number l s (less-le l s e) } in
+        record { number = n; most = le-trans n (h .number) one-number (less-le l s e) (h .most) }
 
 walk-held : (floor s : Float) (bs ds : List Float) → Held s → Held (walk floor s bs ds)
 unfolding walk
@@ -74,9 +61,7 @@ settled-between s h = go (lt s 0f) (finite s) refl
     go : (p q : Bool) → lt s 0f ≡ p → Between 0f 1f (cond (p || not q) 0f s)
     go true q e = none
     go false false e = none
-    go false true e =
-        let least : over binary32 0f + under binary32 s ≤ over binary32 s + under binary32 0f = ltb-false _ _ (sym (lt-whole (h .number) zero-number) ∙ e) in
-        record { from = le-whole zero-number (h .number) ∙ le-leb _ _ least; to = le-whole (h .number) one-number ∙ le-leb _ _ (h .most) }
+    go false true e = record { from = not-under (h .number) zero-number e; to = h .most }
 
 pub scale-between : (floor : Float) (bs ds : List Float) → Between 0f 1f (fitScale floor bs ds)
 unfolding fitScale

@@ -1,21 +1,20 @@
 -- The fit scale is exactly 1 where each base plus its delta, taken exactly, lies in floor..1: no motor's limit is then under 1, so that the walk never
 -- leaves the 1 that it started from. Nothing is asked of a base alone. Assumes nothing.
-use mathlib.Core.Path.{_≡_, refl, sym, ap, _∙_}
+use mathlib.Core.Path.{_≡_, refl, ap, _∙_}
 use mathlib.Core.Bool.{Bool, true, false, _&&_, _||_, cond}
 use mathlib.Core.List.{List, [], _∷_}
-use Prim.Native.Nat.{ℕ, suc, _+_, _<_}
+use Prim.Native.Nat.{ℕ, suc}
 use native.Mathlib.Omega.{arith}
-use borrow.Author.Tests.{ltb-true}
 use lib.Dec.{T}
 use lib.ListN.{getD}
 use lib.Ieee.{Float, nan, binary32, fits, lt, neg, ofBits}
 use lib.Ieee.Bits.{ofBits-fits}
 use lib.Ieee.Scale.{finite}
 use Rattle.binary32.specs.Arithmetic.{_-f_, _/f_, 1f, small}
-use Rattle.binary32.specs.Whole.{negative, over, under}
+use Rattle.binary32.specs.Whole.{negative, under}
 use Rattle.binary32.specs.Range.{SumWithin}
 use Rattle.binary32.proofs.Magnitude.{Finite, finite-number}
-use Rattle.binary32.proofs.Order.{lt-whole}
+use Rattle.binary32.proofs.Comparison.{lt-units}
 use Rattle.binary32.proofs.Positive.{Positive, positive}
 use Rattle.binary32.proofs.Operations.{neg-finite, over-neg, under-neg}
 use Rattle.binary32.proofs.Products.{one-is-unit}
@@ -36,14 +35,14 @@ small-plus = refl
 over-small : {d : Float} → Finite binary32 d → lt small d ≡ true → Positive binary32 d
 over-small {d} h e =
     let n = finite-number h in
-    let less : over binary32 small + under binary32 d < over binary32 d + under binary32 small = ltb-true _ _ (sym (lt-whole (finite-number small-finite) n) ∙ e) in
+    let less = lt-units (finite-number small-finite) n e in
     positive n (omega (arith, small-plus))
 
 under-small : {d : Float} → Finite binary32 d → lt d (neg small) ≡ true → Positive binary32 (neg d)
 under-small {d} h e =
     let n = finite-number h in
     let m = finite-number (neg-finite small-finite) in
-    let less : over binary32 d + under binary32 (neg small) < over binary32 (neg small) + under binary32 d = ltb-true _ _ (sym (lt-whole n m) ∙ e) in
+    let less = lt-units n m e in
     positive (finite-number (neg-finite h)) (omega (arith, small-plus, over-neg binary32 small, under-neg binary32 small, over-neg binary32 d))
 
 -- ---- one motor, and all

@@ -1,18 +1,17 @@
 -- Enough room is no limit: where a - b, taken exactly, is at least d, and d is above zero, the quotient of the rounded difference by d is not under 1.
 -- Rounding keeps the order twice: a - b rounds to no less than d, which is its own rounding, and the quotient, at least 1, to no less than 1.
 -- In either format. Assumes nothing.
-use mathlib.Core.Path.{_≡_, refl, _∙_, subst}
+use mathlib.Core.Path.{_≡_, refl, subst}
 use mathlib.Core.Bool.{true, false, true≢false}
 use Prim.Native.Nat.{ℕ, _+_, _*_, _^_, _≤_, _<_}
 use native.Mathlib.Nat.{mul-one, zero-mul, mul-comm, mul-le-mul-right}
 use native.Mathlib.Omega.{arith}
-use borrow.Author.Tests.{le-ltb}
 use lib.Pow.{pow-pos}
 use lib.Ieee.{Float, nan, inf, fin, Format, low, isNan, lt, sub, div}
 use lib.Ieee.Scale.{finite}
 use Rattle.binary32.specs.Whole.{negative, magnitude, over, under}
 use Rattle.binary32.proofs.Magnitude.{Finite, finite-number}
-use Rattle.binary32.proofs.Order.{lt-whole}
+use Rattle.binary32.proofs.Comparison.{units-le, not-over}
 use Rattle.binary32.proofs.RoundedSize.{over-positive, under-positive}
 use Rattle.binary32.proofs.Positive.{Positive, positive}
 use Rattle.binary32.proofs.Rounded.{Rounded, rounded-order, own-rounding}
@@ -32,7 +31,8 @@ finite-quotient {f} {r} {d} hr pr hd pd h =
     let more : over f unit + under f (div f r d) ≤ over f (div f r d) + under f unit =
     rounded-order (own-rounding (unit-finite f)) q (pow-pos 0) some
     (simp (over-unit, under-unit, under-positive f r (pr .plus), zero-mul, mul-one, mul-comm L n) (omega arith)) in
-    lt-whole (q .number) (finite-number (unit-finite f)) ∙ le-ltb _ _ more
+    let u = finite-number (unit-finite f) in
+    not-over u (q .number) (units-le u (q .number) more)
 
 quotient : {f : Format} {r d : Float} → Positive f r → Finite f d → Positive f d → over f d ≤ over f r → lt (div f r d) unit ≡ false
 unfolding isNan negative div lt

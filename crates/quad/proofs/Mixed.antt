@@ -1,6 +1,5 @@
--- What a mix answers, put together and taken apart: the promises are laws about the rules, so they hold of any state that the rules give; and two states
--- that one contract allows are one, by bits. Assumes nothing.
-use mathlib.Core.Path.{_≡_, sym, _∙_, subst}
+-- What a mix answers, put together: the promises are laws about the rules, so they hold of any state that the rules give. Assumes nothing.
+use mathlib.Core.Path.{_≡_, sym, subst}
 use mathlib.Core.List.{List}
 use lib.Ieee.{Float}
 use Rattle.quad.specs.declared.QuadMixer.{QuadMixer}
@@ -8,6 +7,3 @@ use Rattle.quad.specs.State.{state, Mixed}
 
 pub mixed : {motors : List Float} {scale : Float} {Keeps : List Float → Float → Type 0} {q : QuadMixer} → q ≡ state motors scale → Keeps motors scale → Mixed motors scale Keeps q
 mixed {Keeps} e k = record { is = e; keeps = subst (λ (q : QuadMixer). Keeps (q .«last_motors») (q .«last_torque_scale»)) (sym e) k }
-
-pub mixed-determined : {motors : List Float} {scale : Float} {Keeps : List Float → Float → Type 0} {r q : QuadMixer} → Mixed motors scale Keeps r → Mixed motors scale Keeps q → r ≡ q
-mixed-determined h k = h .is ∙ sym (k .is)

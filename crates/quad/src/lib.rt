@@ -50,7 +50,8 @@ impl QuadMixer {
     pub fn mix(self, torque_body: [f32; 3], thrust: f32) -> QuadMixer
         ensures { λ r. ⌜ Mixed (plainMotors quadRows «torque_body» thrust) (self .«last_torque_scale») (λ motors scale. PlainKeeps «torque_body» thrust motors) r ⌝ }
     {
-        state(plain::motors(torque_body, thrust), self.last_torque_scale)
+        let m = plain::motors(torque_body, thrust);
+        state(m, self.last_torque_scale)
     }
 
     // Thrust-floor: thrust before torque, each motor in floor..1. The scale that the torque was given at is recorded.
@@ -72,20 +73,16 @@ impl QuadMixer {
     pub fn mix_priority(self, torque_body: [f32; 3], thrust: f32, floor: f32) -> QuadMixer
         ensures { λ r. ⌜ Mixed (priorityMotors quadRows «torque_body» thrust floor) (self .«last_torque_scale») (λ motors scale. PriorityKeeps quadRows «torque_body» thrust floor motors) r ⌝ }
     {
-        state(
-            priority::motors(torque_body, thrust, floor),
-            self.last_torque_scale,
-        )
+        let motors = priority::motors(torque_body, thrust, floor);
+        state(motors, self.last_torque_scale)
     }
 
     // Airmode: torque before thrust, each motor in idle..1.
     pub fn mix_airmode(self, torque_body: [f32; 3], thrust: f32, idle: f32) -> QuadMixer
         ensures { λ r. ⌜ Mixed (airmodeMotors quadRows «torque_body» thrust idle) (self .«last_torque_scale») (λ motors scale. AirmodeKeeps quadRows «torque_body» thrust idle motors) r ⌝ }
     {
-        state(
-            airmode::motors(torque_body, thrust, idle),
-            self.last_torque_scale,
-        )
+        let motors = airmode::motors(torque_body, thrust, idle);
+        state(motors, self.last_torque_scale)
     }
 
     // Rotor-out: a lost rotor 0 to 3 is +0, and every other motor is in floor..1. The recorded scale becomes 1: what is given is not one scale.
@@ -98,7 +95,8 @@ impl QuadMixer {
     ) -> QuadMixer
         ensures { λ r. ⌜ Mixed (rotorOutMotors failed «torque_body» thrust floor) 1f (λ motors scale. RotorOutKeeps failed floor motors) r ⌝ }
     {
-        state(rotor_out::motors(failed, torque_body, thrust, floor), 1.0)
+        let motors = rotor_out::motors(failed, torque_body, thrust, floor);
+        state(motors, 1.0)
     }
 }
 

@@ -13,20 +13,22 @@ use lib.Ieee.Scale.{finite}
 use Rattle.binary32.specs.Arithmetic.{_+f_, _-f_, _*f_, _/f_, 0f, 1f, small}
 use Rattle.binary32.specs.Whole.{over, under}
 use Rattle.binary32.specs.Range.{SumWithin}
-use Rattle.binary32.proofs.Magnitude.{Finite, finite-number}
+use Rattle.binary32.proofs.Magnitude.{Finite}
+use Rattle.binary32.proofs.Comparison.{le-units, units-le, not-over}
 use Rattle.binary32.proofs.Rounded.{Rounded, by-difference, rounded-order, own-rounding}
 use Rattle.binary32.proofs.Operations.{add-rounded, sub-rounded}
 use Rattle.binary32.proofs.Range.{zero-finite, zero-over, zero-under, one-finite, one-number, sum-at-least, sum-at-most}
 use Rattle.number.specs.Treat.{treated, limited, floorClamp}
+use Rattle.number.proofs.Choice.{by-test}
 use Rattle.fit.specs.Fit.{EachMotor}
 use Rattle.rules.specs.Rows.{Row}
 use Rattle.rules.specs.Command.{roll, pitch, yaw, delta, deltas}
 use Rattle.rules.specs.Airmode.{spread, spreadScale, unshifted, shift, shifted, airmodeMotors}
 use Rattle.rules.specs.Promises.{Each, Fits, SumRounded}
-use Rattle.rules.proofs.Clamp.{by-test, Floor, floor-number, le-units, units-le, not-over, limited-floor}
-use Rattle.rules.proofs.FittingSum.{Inside, delta-fits, scale-one-second, fitted, fitting-sum}
 use Rattle.rules.proofs.Lists.{each-of-map, each-map, each-motor, each-same}
+use Rattle.rules.proofs.Clamp.{Floor, Inside, inside-number, limited-floor, delta-finite}
 use Rattle.rules.proofs.Extremes.{largest-is, least-is}
+use Rattle.rules.proofs.FittingSum.{scale-one-second, fitted, fitting-sum}
 
 -- ---- a number plus +0 is the number, a zero's sign aside
 
@@ -38,13 +40,10 @@ plus-zero {z} h r =
 
 -- ---- the spread is no more than the range is wide, so that the scale is 1
 
--- a delta is an f32, and fits
+-- a delta is finite, and fits
 record Fitting (lo t d : Float) : Type 0 where
-  fits : T (fits binary32 d)
+  finite : Finite binary32 d
   within : SumWithin lo 1f t d
-
-fitting-finite : {lo t d : Float} → Fitting lo t d → Finite binary32 d
-fitting-finite h = record { fits = h .fits; finite = h .within .second }
 
 -- what is, exactly, no more than 1 - lo is not over it once both are rounded
 not-over-room : {lo x : Float} {p n : ℕ} → Floor lo → Rounded binary32 x p n 1
@@ -59,8 +58,8 @@ not-over-spread : {lo t a b : Float} → Floor lo → Fitting lo t a → Fitting
 unfolding treated
 not-over-spread {lo} {a} {b} l ha hb =
     by-test (λ x. lt (1f -f lo) x ≡ false) (finite (a -f b))
-    (λ e. not-over-room l (sub-rounded (fitting-finite ha) (fitting-finite hb)) (omega (arith, sum-at-most (ha .within), sum-at-least (hb .within))))
-    (λ e. not-over-room l (own-rounding zero-finite) (omega (arith, zero-over, zero-under, le-units (floor-number l) one-number (l .between .to))))
+    (λ e. not-over-room l (sub-rounded (ha .finite) (hb .finite)) (omega (arith, sum-at-most (ha .within), sum-at-least (hb .within))))
+    (λ e. not-over-room l (own-rounding zero-finite) (omega (arith, zero-over, zero-under, le-units (inside-number l) one-number (l .between .to))))
 
 no-scale : (lo wide : Float) → lt (1f -f lo) wide ≡ false → spreadScale lo wide ≡ 1f
 unfolding spreadScale
@@ -75,11 +74,11 @@ no-scale lo wide e = go (lt small wide) (lt (1f -f lo) wide) e
 no-shift : {lo a b : Float} → Floor lo → Inside lo a → Inside lo b → shift lo a b ≡ 0f
 unfolding shift
 no-shift l ha hb =
-    rw (not-over (floor-number l) (finite-number (ha .number)) (ha .between .from), not-over (finite-number (hb .number)) one-number (hb .between .to))
+    rw (not-over (inside-number l) (inside-number ha) (ha .between .from), not-over (inside-number hb) one-number (hb .between .to))
 
 -- ---- the motors; d is what is asked of a rotor
 
-module _ {lo t : Float} (l : Floor lo) (ht : Finite binary32 t) (d : Row → Float) (fd : (row : Row) → T (fits binary32 (d row))) where
+module _ {lo t : Float} (l : Floor lo) (ht : Finite binary32 t) (d : Row → Float) (hd : (row : Row) → Finite binary32 (d row)) where
   abbrev Within : Row → Type 0
   Within row = SumWithin lo 1f t (d row)
 
@@ -90,24 +89,23 @@ module _ {lo t : Float} (l : Floor lo) (ht : Finite binary32 t) (d : Row → Flo
   unfolding spread unshifted
   fitting-unshifted [] w = refl
   fitting-unshifted (row ∷ rows) w =
-      let fit = each-map Within (Fitting lo t) d (λ r v. record { fits = fd r; within = v }) (row ∷ rows) w in
+      let fit = each-map Within (Fitting lo t) d (λ r v. record { finite = hd r; within = v }) (row ∷ rows) w in
       let one = no-scale lo _ (not-over-spread l (largest-is (Fitting lo t) (d row) (map d rows) fit) (least-is (Fitting lo t) (d row) (map d rows) fit)) in
       ap (λ (s : Float). map (λ e. t +f e *f s) (map d (row ∷ rows))) one
       ∙ map-map (λ e. t +f e *f 1f) d (row ∷ rows)
-      ∙ each-same Within (λ r. t +f d r *f 1f) sum (λ r v. ap (λ (x : Float). t +f x) (scale-one-second (d r) (fd r))) (row ∷ rows) w
+      ∙ each-same Within (λ r. t +f d r *f 1f) sum (λ r v. ap (λ (x : Float). t +f x) (scale-one-second (d r) (hd r .fits))) (row ∷ rows) w
 
   fitting-shifted : (rows : List Row) → Each Within rows → shifted lo (map sum rows) ≡ map (λ r. floorClamp (sum r +f 0f) lo) rows
   unfolding shifted
   fitting-shifted [] w = refl
   fitting-shifted (row ∷ rows) w =
-      let in-range = each-map Within (Inside lo) sum (λ r v. fitting-sum l (ht .fits) (fd r) v .inside) (row ∷ rows) w in
+      let in-range = each-map Within (Inside lo) sum (λ r v. fitting-sum l (ht .fits) (hd r .fits) v .inside) (row ∷ rows) w in
       let none = no-shift l (least-is (Inside lo) (sum row) (map sum rows) in-range) (largest-is (Inside lo) (sum row) (map sum rows) in-range) in
       ap (λ (s : Float). map (λ x. floorClamp (x +f s) lo) (map sum (row ∷ rows))) none ∙ map-map (λ x. floorClamp (x +f 0f) lo) sum (row ∷ rows)
 
   fitting-motor : (row : Row) → Within row → SumRounded t (d row) (floorClamp (sum row +f 0f) lo)
   fitting-motor row v =
-      let hd : Finite binary32 (d row) = record { fits = fd row; finite = v .second } in
-      let s = fitted l v (plus-zero (fitting-sum l (ht .fits) (fd row) v .inside .number) (add-rounded ht hd)) in
+      let s = fitted l v (plus-zero (fitting-sum l (ht .fits) (hd row .fits) v .inside .finite) (add-rounded ht (hd row))) in
       rw (s .kept) (s .rounded)
 
   fitting-motors : (rows : List Row) → Each Within rows → EachMotor (SumRounded t) (map d rows) (shifted lo (unshifted lo t (map d rows)))
@@ -122,5 +120,5 @@ pub airmode-fitting : (rows : List Row) (torque : List Float) (thrust idle : Flo
 unfolding deltas airmodeMotors
 airmode-fitting rows torque thrust idle ht hi w =
     let d = delta (roll torque) (pitch torque) (yaw torque) in
-    fitting-motors (limited-floor idle hi) (limited-floor thrust ht .finite) d (delta-fits (roll torque) (pitch torque) (yaw torque)) rows
+    fitting-motors (limited-floor idle hi) (limited-floor thrust ht .finite) d (delta-finite (roll torque) (pitch torque) (yaw torque)) rows
     (each-of-map (SumWithin (limited idle) 1f (limited thrust)) d rows w)

@@ -4,14 +4,15 @@ use mathlib.Core.Path.{_≡_, refl, _∙_}
 use mathlib.Core.List.{List, [], _∷_, map, map-map}
 use Prim.Native.Nat.{ℕ, zero, suc, _≤_, _<_}
 use native.Mathlib.Omega.{arith}
-use borrow.Author.Tests.{ltb-false, eq-eqb, ne-eqb}
-use lib.Dec.{T, eqb, ltb}
-use lib.ListN.{length, getD}
+use borrow.Author.Tests.{eq-eqb, ne-eqb}
+use lib.Dec.{T, eqb}
+use lib.ListN.{getD}
 use lib.Ieee.{Float, nan, binary32, fits, lt}
-use lib.Ieee.Fits.{add-fits, sub-fits, cond-fits}
-use Rattle.binary32.specs.Arithmetic.{_-f_, 0f, 1f}
+use lib.Ieee.Fits.{add-fits, sub-fits}
+use Rattle.binary32.specs.Arithmetic.{_+f_, _*f_, 0f, 1f}
 use Rattle.binary32.specs.Range.{Between}
-use Rattle.number.specs.Treat.{limited, floorClamp}
+use Rattle.number.specs.Treat.{treated, limited, floorClamp}
+use Rattle.number.proofs.Choice.{by-test}
 use Rattle.fit.specs.Fit.{fitScale}
 use Rattle.fit.proofs.Bounded.{scale-between}
 use Rattle.rules.specs.Rows.{Row, quadRows}
@@ -19,23 +20,11 @@ use Rattle.rules.specs.Command.{deltas}
 use Rattle.rules.specs.Plain.{rawSum, rawSums, loweredBy, lowered, plainMotors}
 use Rattle.rules.specs.ThrustFloor.{oneScale, scaledMotor, scaledMotors, thrustFloorScale, thrustFloorMotors}
 use Rattle.rules.specs.Priority.{priorityMotor, priorityMotors}
-use Rattle.rules.specs.Airmode.{unshifted, shifted, airmodeMotors}
-use Rattle.rules.specs.RotorOut.{tiltMotor, motorWithout, motorsWithout, rotorOutMotors}
+use Rattle.rules.specs.Airmode.{shifted, airmodeMotors}
+use Rattle.rules.specs.RotorOut.{tiltMotor, motorWithout, motorsWithout}
 use Rattle.rules.specs.Promises.{Each, InUnit, RotorOutKeeps}
-use Rattle.rules.proofs.Clamp.{by-test, Floor, zero-floor, limited-floor, treated-fits, clamp-between, clamp-unit}
-
--- ---- what holds of each
-
--- a property of every value of g holds of each value of a map by g
-pub each-mapped : {A B : Type 0} (P : B → Type 0) (g : A → B) → ((x : A) → P (g x)) → (xs : List A) → Each P (map g xs)
-each-mapped P g h [] = tt
-each-mapped P g h (x ∷ xs) = (h x, each-mapped P g h xs)
-
--- and what holds of each holds at each place
-pub each-at : {A : Type 0} (P : A → Type 0) (d : A) (xs : List A) → Each P xs → (i : ℕ) → i < length xs → P (getD xs i d)
-each-at P d [] h i l = let no : ⊥ = omega arith in absurd no
-each-at P d (x ∷ xs) h zero l = h .0
-each-at P d (x ∷ xs) h (suc i) l = each-at P d xs (h .1) i (omega arith)
+use Rattle.rules.proofs.Lists.{each-mapped, each-at}
+use Rattle.rules.proofs.Clamp.{Floor, Inside, zero-floor, limited-floor, inside-unit, treated-finite, clamp-inside}
 
 -- ---- motors that were clamped
 
@@ -45,11 +34,11 @@ pub record Clamped (lo : Float) (motors : List Float) : Type 0 where
   pub unit : InUnit motors
 
 -- whatever is clamped at a floor, so long as the format holds it
-pub each-clamped : {A : Type 0} {lo : Float} (g : A → Float) → ((x : A) → T (fits binary32 (g x))) → Floor lo
+each-clamped : {A : Type 0} {lo : Float} (g : A → Float) → ((x : A) → T (fits binary32 (g x))) → Floor lo
     → (xs : List A) → Clamped lo (map (λ x. floorClamp (g x) lo) xs)
 each-clamped {lo} g fg h xs = record {
-  bounded = each-mapped (Between lo 1f) (λ x. floorClamp (g x) lo) (λ x. clamp-between (g x) (fg x) h) xs;
-  unit = each-mapped (Between 0f 1f) (λ x. floorClamp (g x) lo) (λ x. clamp-unit (g x) (fg x) h) xs;
+  bounded = each-mapped (Between lo 1f) (λ x. floorClamp (g x) lo) (λ x. clamp-inside (g x) (fg x) h .between) xs;
+  unit = each-mapped (Between 0f 1f) (λ x. floorClamp (g x) lo) (λ x. inside-unit h (clamp-inside (g x) (fg x) h)) xs;
 }
 
 -- ---- the mixes of any frame
@@ -70,24 +59,27 @@ pub priority-clamped : (rows : List Row) (torque : List Float) (thrust floor : F
 unfolding priorityMotors priorityMotor
 priority-clamped rows torque thrust floor ff = each-clamped _ (λ row. add-fits binary32 _ _) (limited-floor floor ff) rows
 
+shifted-clamped : {idle : Float} → Floor idle → (xs : List Float) → Clamped idle (shifted idle xs)
+unfolding shifted
+shifted-clamped h xs = each-clamped _ (λ x. add-fits binary32 _ _) h xs
+
 pub airmode-clamped : (rows : List Row) (torque : List Float) (thrust idle : Float) → T (fits binary32 idle)
     → Clamped (limited idle) (airmodeMotors rows torque thrust idle)
-unfolding airmodeMotors shifted
-airmode-clamped rows torque thrust idle fi =
-    each-clamped _ (λ x. add-fits binary32 _ _) (limited-floor idle fi) (unshifted (limited idle) (limited thrust) (deltas rows torque))
+unfolding airmodeMotors
+airmode-clamped rows torque thrust idle fi = shifted-clamped (limited-floor idle fi) _
 
 lowered-fits : (most x : Float) → T (fits binary32 x) → T (fits binary32 (loweredBy most x))
 unfolding loweredBy
-lowered-fits most x h = cond-fits binary32 (lt 1f most) (x -f (most -f 1f)) x (sub-fits binary32 x (most -f 1f)) h
+lowered-fits most x h = by-test (λ z. T (fits binary32 z)) (lt 1f most) (λ e. sub-fits binary32 x _) (λ e. h)
 
 -- the plain mix clamps at +0, which is a floor
 pub plain-unit : (rows : List Row) (torque : List Float) (thrust : Float) → InUnit (plainMotors rows torque thrust)
 unfolding plainMotors lowered rawSums rawSum
 plain-unit rows torque thrust = simp map-map (each-clamped _ (λ row. lowered-fits _ _ (add-fits binary32 _ _)) zero-floor rows .unit)
 
--- ---- the rotor-out mix
+-- ---- the rotor-out mix where a rotor is lost: that one is +0, every other one is bounded, and all four lie in 0..1
 
--- a rotor is lost: the four motors by their numbers, and what they keep
+-- the motors are made by their numbers
 at-four : (g : ℕ → Float) (i : ℕ) → i < 4 → getD (map g (0 ∷ 1 ∷ 2 ∷ 3 ∷ [])) i nan ≡ g i
 at-four g zero h = refl
 at-four g (suc zero) h = refl
@@ -95,26 +87,30 @@ at-four g (suc (suc zero)) h = refl
 at-four g (suc (suc (suc zero))) h = refl
 at-four g (suc (suc (suc (suc i)))) h = let no : ⊥ = omega arith in absurd no
 
-without-keeps : (failed : ℕ) (floor : Float) (bs ds : List Float) → T (fits binary32 floor)
+pub without-keeps : (failed : ℕ) (floor : Float) (bs ds : List Float) → T (fits binary32 floor)
     → RotorOutKeeps failed floor (motorsWithout failed (limited floor) bs ds)
 unfolding motorsWithout motorWithout
 without-keeps failed floor bs ds ff =
     let h = limited-floor floor ff in
-    let motor = motorWithout failed (limited floor) (fitScale (limited floor) bs ds) bs ds in
+    let s = fitScale (limited floor) bs ds in
+    let motor = motorWithout failed (limited floor) s bs ds in
+    let motor-inside : (i : ℕ) → Inside (limited floor) (floorClamp (treated (getD bs i nan +f s *f getD ds i nan)) (limited floor)) =
+    λ i. clamp-inside _ (treated-finite _ (add-fits binary32 _ _) .fits) h in
     record {
       lost = λ l. at-four motor failed l ∙ rw (eq-eqb failed failed refl);
-      healthy = λ i l n. rw (at-four motor i l, ne-eqb i failed n) (clamp-between _ (treated-fits _ (add-fits binary32 _ _)) h);
+      healthy = λ i l n. rw (at-four motor i l, ne-eqb i failed n) (motor-inside i .between);
       unit = each-mapped (Between 0f 1f) motor
-          (λ i. by-test (Between 0f 1f) (eqb i failed) (λ e. zero-floor .between) (λ e. clamp-unit _ (treated-fits _ (add-fits binary32 _ _)) h))
+          (λ i. by-test (Between 0f 1f) (eqb i failed) (λ e. zero-floor .between) (λ e. inside-unit h (motor-inside i)))
           (0 ∷ 1 ∷ 2 ∷ 3 ∷ []);
     }
 
--- none is lost
+-- ---- the rotor-out mix where none is lost: all four are bounded
+
 tilt-clamped : (floor t r p : Float) → Floor floor → (rows : List Row) → Clamped floor (map (tiltMotor floor t r p) rows)
 unfolding tiltMotor
-tilt-clamped floor t r p h rows = each-clamped _ (λ row. treated-fits _ (add-fits binary32 _ _)) h rows
+tilt-clamped floor t r p h rows = each-clamped _ (λ row. treated-finite _ (add-fits binary32 _ _) .fits) h rows
 
-tilt-keeps : (failed : ℕ) (floor t r p : Float) → T (fits binary32 floor) → 4 ≤ failed
+pub tilt-keeps : (failed : ℕ) (floor t r p : Float) → T (fits binary32 floor) → 4 ≤ failed
     → RotorOutKeeps failed floor (map (tiltMotor (limited floor) t r p) quadRows)
 unfolding quadRows
 tilt-keeps failed floor t r p ff l =
@@ -124,10 +120,3 @@ tilt-keeps failed floor t r p ff l =
       healthy = λ i g n. each-at (Between (limited floor) 1f) nan (map (tiltMotor (limited floor) t r p) quadRows) (k .bounded) i g;
       unit = k .unit;
     }
-
--- the lost rotor is +0, every other one of the four is bounded, and all four lie in 0..1
-pub rotor-out-clamped : (failed : ℕ) (torque : List Float) (thrust floor : Float) → T (fits binary32 floor)
-    → RotorOutKeeps failed floor (rotorOutMotors failed torque thrust floor)
-unfolding rotorOutMotors
-rotor-out-clamped failed torque thrust floor ff =
-    by-test (RotorOutKeeps failed floor) (ltb failed 4) (λ e. without-keeps failed floor _ _ ff) (λ e. tilt-keeps failed floor _ _ _ ff (ltb-false failed 4 e))

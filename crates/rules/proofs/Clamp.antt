@@ -1,61 +1,24 @@
 -- What holding a number to a range gives: the limited number lies in 0..1, and the floor clamp in floor..1; it leaves what lies there as it is, and keeps the
--- order of finite numbers. A floor is any number in 0..1. Assumes nothing.
-use mathlib.Core.Path.{_≡_, refl, sym, _∙_}
+-- order of finite numbers. A floor is any number in 0..1. Last, what the mixes make of a command first: a delta is finite, and the collective is such a number.
+-- Assumes nothing.
+use mathlib.Core.Path.{_≡_, refl, _∙_}
 use mathlib.Core.Bool.{Bool, true, false, cond}
-use Prim.Native.Nat.{_+_, _≤_, _<_}
-use native.Mathlib.Omega.{arith}
-use borrow.Author.Tests.{ltb-true, ltb-false, leb-true, le-ltb, le-leb}
 use lib.Dec.{T}
 use lib.Ieee.{Float, Format, binary32, fits, lt, le, eq, ofBits}
 use lib.Ieee.Bits.{is-true}
-use lib.Ieee.Fits.{cond-fits}
+use lib.Ieee.Fits.{add-fits, cond-fits}
 use lib.Ieee.Scale.{finite}
 use Rattle.binary32.specs.Arithmetic.{0f, 1f}
-use Rattle.binary32.specs.Whole.{over, under}
 use Rattle.binary32.specs.Range.{Between}
 use Rattle.binary32.proofs.Magnitude.{Number, Finite, finite-number}
-use Rattle.binary32.proofs.Order.{lt-whole, le-whole}
-use Rattle.binary32.proofs.Range.{zero-finite, one-finite, zero-number, one-number, le-number, factor}
+use Rattle.binary32.proofs.Comparison.{less-le, le-refl, le-trans, not-under, not-over}
+use Rattle.binary32.proofs.Range.{zero-finite, one-finite, zero-number, one-number, between-finite}
 use Rattle.number.specs.Treat.{treated, clamped, limited, floorClamp}
-use Rattle.rules.specs.Command.{lifted, collective}
+use Rattle.number.proofs.Choice.{by-test}
+use Rattle.rules.specs.Rows.{Row}
+use Rattle.rules.specs.Command.{lifted, collective, delta}
 
--- ---- a choice has a property that both of its sides have, each where it is taken
-
-pub by-test : {A : Type 0} (P : A → Type 0) (b : Bool) {x y : A} → (b ≡ true → P x) → (b ≡ false → P y) → P (cond b x y)
-by-test P true f g = f refl
-by-test P false f g = g refl
-
--- ---- the comparisons of numbers are those of a total order, in either format
-
--- `le` is the order of the whole numbers, there and back
-pub le-units : {f : Format} {x y : Float} → Number f x → Number f y → le x y ≡ true → over f x + under f y ≤ over f y + under f x
-le-units nx ny h = leb-true _ _ (sym (le-whole nx ny) ∙ h)
-
-pub units-le : {f : Format} {x y : Float} → Number f x → Number f y → over f x + under f y ≤ over f y + under f x → le x y ≡ true
-units-le nx ny h = le-whole nx ny ∙ le-leb _ _ h
-
-pub le-refl : {f : Format} {x : Float} → Number f x → le x x ≡ true
-le-refl n = units-le n n (omega arith)
-
-pub le-trans : {f : Format} {x y z : Float} → Number f x → Number f y → Number f z → le x y ≡ true → le y z ≡ true → le x z ≡ true
-le-trans nx ny nz p q =
-    let first = le-units nx ny p in
-    let second = le-units ny nz q in
-    units-le nx nz (omega arith)
-
--- what is not under y is at least y; what is at most y is not over it; and what is under y is at most y
-pub not-under : {f : Format} {x y : Float} → Number f x → Number f y → lt x y ≡ false → le y x ≡ true
-not-under nx ny e = units-le ny nx (ltb-false _ _ (sym (lt-whole nx ny) ∙ e))
-
-pub not-over : {f : Format} {x y : Float} → Number f x → Number f y → le x y ≡ true → lt y x ≡ false
-not-over nx ny h = lt-whole ny nx ∙ le-ltb _ _ (le-units nx ny h)
-
-pub less-le : {f : Format} {x y : Float} → Number f x → Number f y → lt x y ≡ true → le x y ≡ true
-less-le {f} {x} {y} nx ny e =
-    let less : over f x + under f y < over f y + under f x = ltb-true _ _ (sym (lt-whole nx ny) ∙ e) in
-    units-le nx ny (omega arith)
-
--- ---- a number held to lo..hi
+-- ---- a number held to lo..hi, in either format
 
 module _ {f : Format} {lo hi : Float} (nl : Number f lo) (nh : Number f hi) (h : le lo hi ≡ true) where
   -- it ends up there
@@ -67,9 +30,9 @@ module _ {f : Format} {lo hi : Float} (nl : Number f lo) (nh : Number f hi) (h :
       (λ e. by-test (Between lo hi) (lt hi x) (λ g. record { from = h; to = le-refl nh }) (λ g. record { from = not-under nx nl e; to = not-under nh nx g }))
 
   -- what is there already stays as it is
-  pub clamped-inside : {x : Float} → Number f x → Between lo hi x → clamped x lo hi ≡ x
+  pub clamped-stays : {x : Float} → Number f x → Between lo hi x → clamped x lo hi ≡ x
   unfolding clamped
-  clamped-inside nx b = rw (not-over nl nx (b .from), not-over nx nh (b .to))
+  clamped-stays nx b = rw (not-over nl nx (b .from), not-over nx nh (b .to))
 
   -- and the order is kept
   pub clamped-order : {x y : Float} → Number f x → Number f y → le x y ≡ true → le (clamped x lo hi) (clamped y lo hi) ≡ true
@@ -78,112 +41,92 @@ module _ {f : Format} {lo hi : Float} (nl : Number f lo) (nh : Number f hi) (h :
     where
       go : (p q : Bool) → lt x lo ≡ p → lt hi y ≡ q → le (clamped x lo hi) (clamped y lo hi) ≡ true
       go true q e g = rw e (clamped-between ny .from)
-      go false true e g = rw (not-over nl ny (le-trans nl nh ny h (less-le nh ny g)), g) (clamped-between nx .to)
+      go false true e g = rw (not-over nl ny (le-trans nl nh ny h (less-le hi y g)), g) (clamped-between nx .to)
       go false false e g =
           let low = not-under nx nl e in
           let high = not-under nh ny g in
-          rw (clamped-inside nx (record { from = low; to = le-trans nx ny nh o high }), clamped-inside ny (record { from = le-trans nl nx ny low o; to = high })) o
+          rw
+          (clamped-stays nx (record { from = low; to = le-trans nx ny nh o high }), clamped-stays ny (record { from = le-trans nl nx ny low o; to = high })) o
 
-clamped-fits : (x lo hi : Float) → T (fits binary32 x) → T (fits binary32 lo) → T (fits binary32 hi) → T (fits binary32 (clamped x lo hi))
-unfolding clamped
-clamped-fits x lo hi fx fl fh = cond-fits binary32 (lt x lo) lo (cond (lt hi x) hi x) fl (cond-fits binary32 (lt hi x) hi x fh fx)
+-- ---- a number in lo..1, and a floor
 
--- ---- a floor
+-- x is an f32 in lo..1
+pub record Inside (lo x : Float) : Type 0 where
+  pub finite : Finite binary32 x
+  pub between : Between lo 1f x
 
--- a floor as the mixes have it: finite and in 0..1
-pub record Floor (lo : Float) : Type 0 where
-  pub finite : Finite binary32 lo
-  pub between : Between 0f 1f lo
+-- a floor, as the mixes have it, is one in 0..1
+abbrev pub Floor : Float → Type 0
+Floor = Inside 0f
 
--- what fits and lies in 0..1 is finite too
-pub floor-of : {lo : Float} → T (fits binary32 lo) → Between 0f 1f lo → Floor lo
-floor-of h b = record { finite = factor h b .number; between = b }
+pub inside-number : {lo x : Float} → Inside lo x → Number binary32 x
+inside-number h = finite-number (h .finite)
 
-pub floor-number : {lo : Float} → Floor lo → Number binary32 lo
-floor-number h = finite-number (h .finite)
+-- what fits and lies between two finite numbers is finite
+pub inside : {lo x : Float} → Finite binary32 lo → T (fits binary32 x) → Between lo 1f x → Inside lo x
+inside hl fx b = record { finite = record { fits = fx; finite = between-finite (hl .finite) (one-finite .finite) b }; between = b }
 
 pub zero-floor : Floor 0f
 unfolding le lt eq ofBits
-zero-floor = floor-of (zero-finite .fits) (record { from = refl; to = refl })
+zero-floor = record { finite = zero-finite; between = record { from = refl; to = refl } }
 
--- a floor lies in the range that it is the floor of
-pub floor-least : {lo : Float} → Floor lo → Between lo 1f lo
-floor-least h = record { from = le-refl (floor-number h); to = h .between .to }
+-- a floor lies in the range that it is the floor of, and that range in 0..1
+pub floor-inside : {lo : Float} → Floor lo → Inside lo lo
+floor-inside h = record { finite = h .finite; between = record { from = le-refl (inside-number h); to = h .between .to } }
 
--- from lo..1 with lo in 0..1 to 0..1
-pub unit-of : {x lo : Float} → T (fits binary32 x) → Floor lo → Between lo 1f x → Between 0f 1f x
-unit-of {x} fx h b =
-    let n : Number binary32 x = record { fits = fx; number = le-number x 1f (b .to) } in
-    record { from = le-trans zero-number (floor-number h) n (h .between .from) (b .from); to = b .to }
+pub inside-unit : {lo x : Float} → Floor lo → Inside lo x → Between 0f 1f x
+inside-unit h i = record { from = le-trans zero-number (inside-number h) (inside-number i) (h .between .from) (i .between .from); to = i .between .to }
+
+-- held to that range, a finite number lies there
+clamped-inside : {lo x : Float} → Floor lo → Finite binary32 x → Inside lo (clamped x lo 1f)
+unfolding clamped
+clamped-inside {lo} {x} h hx =
+    inside (h .finite)
+    (cond-fits binary32 (lt x lo) lo (cond (lt 1f x) 1f x) (h .finite .fits) (cond-fits binary32 (lt 1f x) 1f x (one-finite .fits) (hx .fits)))
+    (clamped-between (inside-number h) one-number (h .between .to) (finite-number hx))
 
 -- ---- treated and limited
 
--- a treated number is finite, and the format holds it if it held the number
-pub treated-fits : (x : Float) → T (fits binary32 x) → T (fits binary32 (treated x))
+-- a treated number is finite
+pub treated-finite : (x : Float) → T (fits binary32 x) → Finite binary32 (treated x)
 unfolding treated
-treated-fits x h = cond-fits binary32 (finite x) x 0f h (zero-finite .fits)
-
-pub treated-finite : (x : Float) → T (finite (treated x))
-unfolding treated
-treated-finite x = by-test (λ z. T (finite z)) (finite x) (λ e. rw e tt) (λ e. zero-finite .finite)
-
-pub finite-treated : (x : Float) → T (fits binary32 x) → Finite binary32 (treated x)
-finite-treated x h = record { fits = treated-fits x h; finite = treated-finite x }
+treated-finite x h = by-test (Finite binary32) (finite x) (λ e. record { fits = h; finite = rw e tt }) (λ e. zero-finite)
 
 -- a limited number lies in 0..1, so it is a floor
 pub limited-floor : (x : Float) → T (fits binary32 x) → Floor (limited x)
 unfolding limited
-limited-floor x h =
-    let t = finite-treated x h in
-    floor-of
-    (clamped-fits (treated x) 0f 1f (t .fits) (zero-finite .fits) (one-finite .fits))
-    (clamped-between zero-number one-number (zero-floor .between .to) (finite-number t))
+limited-floor x h = clamped-inside zero-floor (treated-finite x h)
 
 -- ---- the floor clamp
 
-pub clamp-fits : (x lo : Float) → T (fits binary32 x) → T (fits binary32 lo) → T (fits binary32 (floorClamp x lo))
+-- it lies in floor..1, whatever was clamped
+pub clamp-inside : (x : Float) {lo : Float} → T (fits binary32 x) → Floor lo → Inside lo (floorClamp x lo)
 unfolding floorClamp
-clamp-fits x lo fx fl = cond-fits binary32 (finite x) (clamped x lo 1f) lo (clamped-fits x lo 1f fx fl (one-finite .fits)) fl
+clamp-inside x {lo} fx h =
+    by-test (Inside lo) (finite x) (λ e. clamped-inside h (record { fits = fx; finite = rw e tt })) (λ e. floor-inside h)
 
--- of a finite number it is the number held to lo..1
-clamp-finite : (x lo : Float) → T (finite x) → floorClamp x lo ≡ clamped x lo 1f
+-- of a finite number it is the number held to floor..1
+clamp-finite : {x : Float} → Finite binary32 x → (lo : Float) → floorClamp x lo ≡ clamped x lo 1f
 unfolding floorClamp
-clamp-finite x lo t = rw (is-true (finite x) t)
+clamp-finite {x} h lo = rw (is-true (finite x) (h .finite))
 
--- it lies in floor..1, whatever was clamped, and so in 0..1
-pub clamp-between : (x : Float) {lo : Float} → T (fits binary32 x) → Floor lo → Between lo 1f (floorClamp x lo)
-unfolding floorClamp
-clamp-between x {lo} fx h =
-    by-test (Between lo 1f) (finite x)
-    (λ e. clamped-between (floor-number h) one-number (h .between .to) (finite-number (record { fits = fx; finite = rw e tt })))
-    (λ e. floor-least h)
+-- so a number that lies there stays as it is
+pub clamp-stays : {x lo : Float} → Floor lo → Inside lo x → floorClamp x lo ≡ x
+clamp-stays {lo} h i = clamp-finite (i .finite) lo ∙ clamped-stays (inside-number h) one-number (h .between .to) (inside-number i) (i .between)
 
-pub clamp-unit : (x : Float) {lo : Float} → T (fits binary32 x) → Floor lo → Between 0f 1f (floorClamp x lo)
-clamp-unit x {lo} fx h = unit-of (clamp-fits x lo fx (h .finite .fits)) h (clamp-between x fx h)
+-- and the order of finite numbers is kept (+infinity gives the floor, so that of all numbers is not)
+pub clamp-order : {x y lo : Float} → Floor lo → Finite binary32 x → Finite binary32 y → le x y ≡ true → le (floorClamp x lo) (floorClamp y lo) ≡ true
+clamp-order {lo} h hx hy o =
+    rw (clamp-finite hx lo, clamp-finite hy lo) (clamped-order (inside-number h) one-number (h .between .to) (finite-number hx) (finite-number hy) o)
 
--- a finite number that lies there stays as it is
-pub clamp-inside : {x lo : Float} → T (finite x) → Between lo 1f x → T (fits binary32 x) → Floor lo → floorClamp x lo ≡ x
-clamp-inside {x} {lo} t b fx h = clamp-finite x lo t ∙ clamped-inside (floor-number h) one-number (h .between .to) (finite-number (record { fits = fx; finite = t })) b
+-- ---- what the mixes make of a command first
 
--- the order of finite numbers is kept (+infinity gives the floor, so that of all numbers is not)
-pub clamp-order : {x y lo : Float} → Finite binary32 x → Finite binary32 y → Floor lo → le x y ≡ true → le (floorClamp x lo) (floorClamp y lo) ≡ true
-clamp-order {x} {y} {lo} hx hy h o =
-    rw (clamp-finite x lo (hx .finite), clamp-finite y lo (hy .finite))
-    (clamped-order (floor-number h) one-number (h .between .to) (finite-number hx) (finite-number hy) o)
+-- a delta is finite, being treated
+pub delta-finite : (r p y : Float) (row : Row) → Finite binary32 (delta r p y row)
+unfolding delta
+delta-finite r p y row = treated-finite _ (add-fits binary32 _ _)
 
--- ---- the collective of thrust-floor and priority is a floor too, and lies from the floor to 1
-
-lifted-floor : {t floor : Float} → Floor t → Floor floor → Floor (lifted t floor)
-unfolding lifted
-lifted-floor {t} {floor} ht hf = by-test Floor (lt t floor) (λ e. hf) (λ e. ht)
-
-lifted-between : {t floor : Float} → Floor t → Floor floor → Between floor 1f (lifted t floor)
-unfolding lifted
-lifted-between {t} {floor} ht hf =
-    by-test (Between floor 1f) (lt t floor) (λ e. floor-least hf) (λ e. record { from = not-under (floor-number ht) (floor-number hf) e; to = ht .between .to })
-
+-- the collective of thrust-floor and priority is one of two numbers in 0..1
 pub collective-floor : (thrust floor : Float) → T (fits binary32 thrust) → T (fits binary32 floor) → Floor (collective thrust floor)
-collective-floor thrust floor ft ff = lifted-floor (limited-floor thrust ft) (limited-floor floor ff)
-
-pub collective-between : (thrust floor : Float) → T (fits binary32 thrust) → T (fits binary32 floor) → Between (limited floor) 1f (collective thrust floor)
-collective-between thrust floor ft ff = lifted-between (limited-floor thrust ft) (limited-floor floor ff)
+unfolding lifted
+collective-floor thrust floor ft ff = by-test Floor (lt (limited thrust) (limited floor)) (λ e. limited-floor floor ff) (λ e. limited-floor thrust ft)

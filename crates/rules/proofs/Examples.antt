@@ -16,8 +16,8 @@ use Rattle.binary32.specs.Arithmetic.{_+f_, 0f, 1f}
 use Rattle.binary32.specs.Whole.{negative, magnitude, over, under, wholeOf}
 use Rattle.binary32.specs.Range.{exactSum, SumWithin}
 use Rattle.binary32.proofs.Magnitude.{Finite, finite-number}
-use Rattle.binary32.proofs.Operations.{add-rounded}
 use Rattle.binary32.proofs.Integers.{own-pair, rounding-rounded}
+use Rattle.binary32.proofs.Operations.{add-rounded}
 use Rattle.binary32.proofs.Exact.{eq-exact, rounding-own, add-exact}
 use Rattle.number.specs.Treat.{treated, clamped, limited}
 use Rattle.rules.specs.Rows.{Row, quadRows}

@@ -1,11 +1,27 @@
--- What holds of each of some numbers holds of the largest and of the least of them: the walk only ever holds one of them. Assumes nothing.
+-- The largest and the least of some numbers. The walk only ever holds one of them, so that what holds of each holds of these two; and the largest of numbers,
+-- none a NaN, is +infinity where one of them is. Assumes nothing.
+use mathlib.Core.Path.{_≡_, refl, ap, _∙_}
+use mathlib.Core.Bool.{true, false, not}
 use mathlib.Core.List.{List, [], _∷_}
-use lib.Ieee.{Float, lt}
+use Prim.Native.Nat.{ℕ, zero, suc}
+use lib.Dec.{T}
+use lib.ListN.{getD}
+use lib.Ieee.{Float, nan, inf, fin, lt, isNan}
+use Rattle.number.proofs.Choice.{by-test}
 use Rattle.rules.specs.Extremes.{larger, smaller, walked, best, largest, least}
 use Rattle.rules.specs.Promises.{Each}
-use Rattle.rules.proofs.Clamp.{by-test}
+
+-- ---- what holds of each holds of the one that is held
 
 module _ (P : Float → Type 0) where
+  larger-is : (held x : Float) → P held → P x → P (larger held x)
+  unfolding larger
+  larger-is held x p q = by-test P (lt held x) (λ e. q) (λ e. p)
+
+  smaller-is : (held x : Float) → P held → P x → P (smaller held x)
+  unfolding smaller
+  smaller-is held x p q = by-test P (lt x held) (λ e. q) (λ e. p)
+
   module _ (better : Float → Float → Float) (picks : (held x : Float) → P held → P x → P (better held x)) where
     walked-is : (held : Float) (xs : List Float) → P held → Each P xs → P (walked better held xs)
     unfolding walked
@@ -17,9 +33,45 @@ module _ (P : Float → Type 0) where
     best-is x xs ps = walked-is x xs (ps .0) (ps .1)
 
   pub largest-is : (x : Float) (xs : List Float) → Each P (x ∷ xs) → P (largest (x ∷ xs))
-  unfolding larger
-  largest-is = best-is larger (λ held x p q. by-test P (lt held x) (λ e. q) (λ e. p))
+  largest-is = best-is larger larger-is
 
   pub least-is : (x : Float) (xs : List Float) → Each P (x ∷ xs) → P (least (x ∷ xs))
-  unfolding smaller
-  least-is = best-is smaller (λ held x p q. by-test P (lt x held) (λ e. q) (λ e. p))
+  least-is = best-is smaller smaller-is
+
+-- ---- +infinity among them
+
+abbrev pub NoNan : Float → Type 0
+NoNan x = T (not (isNan x))
+
+-- +infinity takes the place of every number
+infinity-taken : (held : Float) → NoNan held → larger held (inf false) ≡ inf false
+unfolding isNan larger lt
+infinity-taken nan n = absurd n
+infinity-taken (inf true) n = refl
+infinity-taken (inf false) n = refl
+infinity-taken (fin s m e) n = refl
+
+-- and nothing takes the place of it
+infinity-kept : (x : Float) → larger (inf false) x ≡ inf false
+unfolding larger lt
+infinity-kept nan = refl
+infinity-kept (inf s) = refl
+infinity-kept (fin s m e) = refl
+
+walk-from-infinity : (xs : List Float) → walked larger (inf false) xs ≡ inf false
+unfolding walked
+walk-from-infinity [] = refl
+walk-from-infinity (x ∷ xs) = ap (λ (h : Float). walked larger h xs) (infinity-kept x) ∙ walk-from-infinity xs
+
+walk-to-infinity : (held : Float) (xs : List Float) → NoNan held → Each NoNan xs → (i : ℕ) → getD xs i nan ≡ inf false → walked larger held xs ≡ inf false
+unfolding walked
+walk-to-infinity held [] n w i e = cc
+walk-to-infinity held (x ∷ xs) n w zero e =
+    ap (λ (h : Float). walked larger h xs) (ap (larger held) e ∙ infinity-taken held n) ∙ walk-from-infinity xs
+walk-to-infinity held (x ∷ xs) n w (suc i) e = walk-to-infinity (larger held x) xs (larger-is NoNan held x n (w .0)) (w .1) i e
+
+pub largest-infinite : (xs : List Float) → Each NoNan xs → (i : ℕ) → getD xs i nan ≡ inf false → largest xs ≡ inf false
+unfolding best
+largest-infinite [] w i e = cc
+largest-infinite (x ∷ xs) w zero e = ap (λ (h : Float). walked larger h xs) e ∙ walk-from-infinity xs
+largest-infinite (x ∷ xs) w (suc i) e = walk-to-infinity x xs (w .0) (w .1) i e

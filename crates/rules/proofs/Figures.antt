@@ -1,8 +1,6 @@
 -- The starred bench figures hold, by computing, for every yaw of figure 11. Assumes nothing.
-use mathlib.Core.Path.{_≡_, refl}
+use mathlib.Core.Path.{refl}
 use lib.Ieee.{Float, add, sub, mul, div, neg, lt, le, eq, ofBits}
-use lib.Ieee.Scale.{finite}
-use Rattle.rules.specs.Figures.{starred, AllHold}
 use Rattle.binary32.specs.Arithmetic.{absolute}
 use Rattle.number.specs.Treat.{treated, clamped, limited, floorClamp}
 use Rattle.fit.specs.Fit.{limits, motorLimit, tightened, walk, settled, fitScale}
@@ -15,6 +13,7 @@ use Rattle.rules.specs.ThrustFloor.{oneScale, scaledMotor, scaledMotors,
 use Rattle.rules.specs.Priority.{yawGroup, rollPitchGroup, yawScale, rollPitchScale, priorityMotor, priorityMotors}
 use Rattle.rules.specs.Airmode.{spread, spreadScale, unshifted, shift, shifted, airmodeMotors}
 use Rattle.rules.specs.RotorOut.{tilt, tiltMotor, equations, placed, baseWithout, deltaWithout, motorWithout, motorsWithout, rotorOutMotors}
+use Rattle.rules.specs.Figures.{starred, AllHold}
 
 pub starred-hold : (y : Float) → AllHold (starred y)
 unfolding add sub mul div neg lt le eq ofBits absolute treated clamped limited floorClamp limits motorLimit tightened walk settled fitScale singular cramer solution quadRows lifted delta deltas larger smaller walked best rawSum rawSums loweredBy lowered plainMotors oneScale scaledMotor scaledMotors thrustFloorScale thrustFloorMotors yawGroup rollPitchGroup yawScale rollPitchScale priorityMotor priorityMotors spread spreadScale unshifted shift shifted airmodeMotors tilt tiltMotor equations placed baseWithout deltaWithout motorWithout motorsWithout rotorOutMotors

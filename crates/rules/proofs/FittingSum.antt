@@ -7,30 +7,25 @@ use native.Mathlib.Omega.{arith}
 use lib.Dec.{T}
 use lib.Pow.{pow-pos}
 use lib.Ieee.{Float, binary32, fits}
-use lib.Ieee.Fits.{add-fits}
 use Rattle.binary32.specs.Arithmetic.{_+f_, _*f_, 1f}
 use Rattle.binary32.specs.Whole.{over, under}
-use Rattle.binary32.specs.Range.{Between, exactSum, SumWithin}
+use Rattle.binary32.specs.Range.{exactSum, SumWithin}
 use Rattle.binary32.proofs.Magnitude.{Finite}
+use Rattle.binary32.proofs.Comparison.{units-le}
 use Rattle.binary32.proofs.Rounded.{Rounded, rounded-order, own-rounding}
-use Rattle.binary32.proofs.Operations.{add-rounded}
 use Rattle.binary32.proofs.Integers.{whole-difference, sum-of, is-rounding}
+use Rattle.binary32.proofs.Operations.{add-rounded}
 use Rattle.binary32.proofs.Products.{one-is-unit, one-times, times-one}
-use Rattle.binary32.proofs.Range.{one-finite, one-number, factor, sum-at-least, sum-at-most}
+use Rattle.binary32.proofs.Range.{one-finite, one-number, sum-at-least, sum-at-most}
 use Rattle.number.specs.Treat.{floorClamp}
 use Rattle.fit.specs.Fit.{fitScale}
 use Rattle.fit.proofs.Fitting.{scale-fitting}
-use Rattle.rules.specs.Rows.{Row, rollOf, pitchOf, yawOf}
-use Rattle.rules.specs.Command.{delta}
+use Rattle.rules.specs.Rows.{Row}
 use Rattle.rules.specs.Promises.{Each, SumRounded}
-use Rattle.rules.proofs.Clamp.{Floor, floor-number, units-le, unit-of, treated-fits, clamp-inside}
 use Rattle.rules.proofs.Lists.{map-fits, each-motor}
+use Rattle.rules.proofs.Clamp.{Floor, Inside, inside-number, inside, clamp-stays}
 
--- ---- a delta is an f32, and a scale of 1 leaves it as it is, by bits
-
-pub delta-fits : (r p y : Float) (row : Row) → T (fits binary32 (delta r p y row))
-unfolding delta
-delta-fits r p y row = treated-fits _ (add-fits binary32 (rollOf row *f r +f pitchOf row *f p) (yawOf row *f y))
+-- ---- a scale of 1 leaves a number as it is, by bits
 
 pub scale-one-first : (x : Float) → T (fits binary32 x) → 1f *f x ≡ x
 scale-one-first x h = ap (λ (one : Float). one *f x) one-is-unit ∙ one-times binary32 x h
@@ -41,13 +36,8 @@ scale-one-second x h = ap (λ (one : Float). x *f one) one-is-unit ∙ times-one
 -- ---- the sum
 
 -- z is the exact sum of x and y, rounded once, a zero's sign aside
-abbrev pub SumOf : Float → Float → Float → Type 0
+abbrev SumOf : Float → Float → Float → Type 0
 SumOf x y z = Rounded binary32 z (over binary32 x + over binary32 y) (under binary32 x + under binary32 y) 1
-
--- x is an f32 in lo..1
-pub record Inside (lo x : Float) : Type 0 where
-  pub number : Finite binary32 x
-  pub between : Between lo 1f x
 
 -- what is said of such a z
 pub record Fitted (lo x y z : Float) : Type 0 where
@@ -63,12 +53,11 @@ fitted {lo} {x} {y} {z} l w r =
     rounded-order (own-rounding (l .finite)) r (pow-pos 0) (pow-pos 0) (omega (arith, sum-at-least w)) in
     let below : over binary32 z + under binary32 1f ≤ over binary32 1f + under binary32 z =
     rounded-order r (own-rounding one-finite) (pow-pos 0) (pow-pos 0) (omega (arith, sum-at-most w)) in
-    let between : Between lo 1f z = record { from = units-le (floor-number l) n above; to = units-le n one-number below } in
-    let number : Finite binary32 z = factor (n .fits) (unit-of (n .fits) l between) .number in
+    let within = inside (l .finite) (n .fits) (record { from = units-le (inside-number l) n above; to = units-le n one-number below }) in
     record {
-      inside = record { number = number; between = between };
+      inside = within;
       rounded = is-rounding r (sum-of (whole-difference binary32 x) (whole-difference binary32 y)) (pow-pos 0);
-      kept = clamp-inside (number .finite) between (n .fits) l;
+      kept = clamp-stays l within;
     }
 
 -- the sum that the operation gives is one

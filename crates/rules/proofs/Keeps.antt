@@ -1,9 +1,11 @@
 -- What each mix keeps, whole: the records of `specs/Promises.antt`, one law a mix. Assumes nothing.
 use Prim.Native.Nat.{ℕ}
 use mathlib.Core.List.{List}
-use lib.Dec.{T}
+use borrow.Author.Tests.{ltb-false}
+use lib.Dec.{T, ltb}
 use lib.ListN.{getD}
 use lib.Ieee.{Float, nan, binary32, fits}
+use Rattle.number.proofs.Choice.{by-test}
 use Rattle.rules.specs.Rows.{Row, quadRows}
 use Rattle.rules.specs.Plain.{plainMotors}
 use Rattle.rules.specs.ThrustFloor.{thrustFloorScale, thrustFloorMotors}
@@ -11,7 +13,7 @@ use Rattle.rules.specs.Priority.{priorityMotors}
 use Rattle.rules.specs.Airmode.{airmodeMotors}
 use Rattle.rules.specs.RotorOut.{rotorOutMotors}
 use Rattle.rules.specs.Promises.{PlainKeeps, ThrustFloorKeeps, PriorityKeeps, AirmodeKeeps, RotorOutKeeps}
-use Rattle.rules.proofs.Bounded.{plain-unit, thrust-floor-clamped, thrust-floor-scaled, priority-clamped, airmode-clamped, rotor-out-clamped}
+use Rattle.rules.proofs.Bounded.{plain-unit, thrust-floor-clamped, thrust-floor-scaled, priority-clamped, airmode-clamped, without-keeps, tilt-keeps}
 use Rattle.rules.proofs.Ordered.{thrust-floor-ordered}
 use Rattle.rules.proofs.ThrustFloorFitting.{thrust-floor-fitting}
 use Rattle.rules.proofs.PriorityFitting.{priority-fitting}
@@ -28,10 +30,12 @@ plain-keeps torque thrust fs ft = record {
   toOne = plain-to-one torque thrust;
 }
 
--- the rotor-out mix, of the quad; the floor is an f32
+-- the rotor-out mix, of the quad, whether the number is that of a rotor or not; the floor is an f32
 pub rotor-out-keeps : (failed : ℕ) (torque : List Float) (thrust floor : Float) → T (fits binary32 floor)
     → RotorOutKeeps failed floor (rotorOutMotors failed torque thrust floor)
-rotor-out-keeps = rotor-out-clamped
+unfolding rotorOutMotors
+rotor-out-keeps failed torque thrust floor ff =
+    by-test (RotorOutKeeps failed floor) (ltb failed 4) (λ e. without-keeps failed floor _ _ ff) (λ e. tilt-keeps failed floor _ _ _ ff (ltb-false failed 4 e))
 
 -- the mixes of any frame; the thrust and the floor are f32s
 module _ (rows : List Row) (torque : List Float) (thrust floor : Float) (ft : T (fits binary32 thrust)) (ff : T (fits binary32 floor)) where

@@ -1,20 +1,19 @@
 -- Document 01's claims on the plain mix ('The five quad mixes', 1), of any torque and thrust that binary32 holds: "Raw sums are never NaN here", "One raw
 -- +infinity makes all four 0", and "A finite largest over 1 and up to 2^24 ends exactly at 1". The last two are of any list of raw sums. Assumes nothing.
 use mathlib.Core.Path.{_≡_, refl, sym, ap, _∙_, subst}
-use mathlib.Core.Bool.{Bool, true, false, not, cond, _||_}
-use mathlib.Core.List.{List, [], _∷_, map}
-use Prim.Native.Nat.{ℕ, zero, suc}
+use mathlib.Core.Bool.{true, false, not}
+use mathlib.Core.List.{List, [], _∷_, map, map-map}
+use Prim.Native.Nat.{ℕ}
 use lib.Dec.{T}
 use lib.ListN.{getD}
-use lib.Ieee.{Float, nan, inf, fin, binary32, fits, isNan, lt, le, eq, neg, add, sub, ofBits}
-use lib.Ieee.Fits.{add-fits, nan-fits}
-use lib.Ieee.Scale.{finite}
+use lib.Ieee.{Float, nan, inf, fin, binary32, fits, isNan, lt, le, neg, add, sub, ofBits}
+use lib.Ieee.Fits.{add-fits}
 use Rattle.binary32.specs.Arithmetic.{_*f_, 0f, 1f}
 use Rattle.binary32.specs.Range.{Between}
 use Rattle.binary32.proofs.Magnitude.{Number, Finite, finite-number}
+use Rattle.binary32.proofs.Comparison.{less-le, le-number}
 use Rattle.binary32.proofs.Operations.{add-number}
 use Rattle.binary32.proofs.Products.{unit, one-is-unit, one-product-finite, minus-one-product-finite}
-use Rattle.binary32.proofs.Range.{zero-finite, one-number, le-number}
 use Rattle.binary32.proofs.LessOne.{endOf, back-to-one}
 use Rattle.number.specs.Treat.{treated, clamped, floorClamp}
 use Rattle.rules.specs.Rows.{Row, thrustOf, rollOf, pitchOf, yawOf, -1f, quadRows}
@@ -22,18 +21,9 @@ use Rattle.rules.specs.Command.{roll, pitch, yaw}
 use Rattle.rules.specs.Extremes.{largest}
 use Rattle.rules.specs.Plain.{rawSum, rawSums, loweredBy, lowered, plainMotors}
 use Rattle.rules.specs.Promises.{Each, wholeEnd}
-use Rattle.rules.proofs.Each.{each-map, map-at}
-use Rattle.rules.proofs.Largest.{NoNan, largest-infinite}
-
--- ---- a treated number is finite
-
-treated-finite : (x : Float) → T (fits binary32 x) → Finite binary32 (treated x)
-unfolding treated
-treated-finite x h = go (finite x) refl
-  where
-    go : (b : Bool) → finite x ≡ b → Finite binary32 (cond b x 0f)
-    go true e = record { fits = h; finite = rw e tt }
-    go false e = zero-finite
+use Rattle.rules.proofs.Lists.{each-mapped, each-map, map-at, map-fits, number-place}
+use Rattle.rules.proofs.Clamp.{treated-finite}
+use Rattle.rules.proofs.Extremes.{NoNan, largest-infinite}
 
 -- ---- a factor of a row, 1 or -1, keeps a finite number finite
 
@@ -93,9 +83,8 @@ lowered-by-infinity (fin s m e) = refl
 pub lowered-overflowed : (xs : List Float) → Each NoNan xs → (i : ℕ) → getD xs i nan ≡ inf false → Each (λ m. m ≡ 0f) (map (λ x. floorClamp x 0f) (lowered xs))
 unfolding lowered
 lowered-overflowed xs w i e =
-    let most = largest-infinite xs w i e in
-    each-map (λ x. floorClamp x 0f ≡ 0f) (λ m. m ≡ 0f) (λ x. floorClamp x 0f) (λ x h. h) (map (loweredBy (largest xs)) xs)
-    (each-map NoNan (λ x. floorClamp x 0f ≡ 0f) (loweredBy (largest xs)) (λ x n. ap (λ (l : Float). floorClamp (loweredBy l x) 0f) most ∙ lowered-by-infinity x) xs w)
+    rw (map-map (λ x. floorClamp x 0f) (loweredBy (largest xs)) xs, largest-infinite xs w i e)
+    (each-mapped (λ m. m ≡ 0f) (λ x. floorClamp (loweredBy (inf false) x) 0f) lowered-by-infinity xs)
 
 pub plain-overflowed : (torque : List Float) (thrust : Float) → ((k : ℕ) → T (fits binary32 (getD torque k nan))) → T (fits binary32 thrust)
     → (i : ℕ) → getD (rawSums quadRows torque thrust) i nan ≡ inf false → Each (λ m. m ≡ 0f) (plainMotors quadRows torque thrust)
@@ -109,9 +98,8 @@ unfolding ofBits
 end-is = refl
 
 over-one-up-to-end : {most : Float} → lt 1f most ≡ true → le most wholeEnd ≡ true → Between unit (endOf binary32) most
-unfolding le
 over-one-up-to-end {most} l h = record {
-  from = ap (λ (u : Float). le u most) (sym one-is-unit) ∙ ap (λ (b : Bool). b || eq 1f most) l;
+  from = ap (λ (u : Float). le u most) (sym one-is-unit) ∙ less-le 1f most l;
   to = ap (le most) (sym end-is) ∙ h;
 }
 
@@ -130,15 +118,13 @@ unfolding lowered
 lowered-to-one xs hs l h i e =
     let most = largest xs in
     let held : T (fits binary32 most) = subst (λ (x : Float). T (fits binary32 x)) e (hs i) in
-    let one = map-at (loweredBy most) xs i e (le-number most wholeEnd h) ∙ largest-lowered most held l h in
-    map-at (λ x. floorClamp x 0f) (map (loweredBy most) xs) i one (one-number .number) ∙ one-kept
+    let place = number-place xs i (subst NoNan (sym e) (le-number most wholeEnd h)) in
+    rw (map-map, map-at (λ x. floorClamp (loweredBy most x) 0f) nan nan xs i place, e, largest-lowered most held l h) one-kept
 
 -- a raw sum is one of binary32's numbers, whatever is summed
 sums-fit : (rows : List Row) (torque : List Float) (thrust : Float) (k : ℕ) → T (fits binary32 (getD (rawSums rows torque thrust) k nan))
 unfolding rawSums rawSum
-sums-fit [] torque thrust k = nan-fits binary32
-sums-fit (row ∷ rows) torque thrust zero = add-fits binary32 _ _
-sums-fit (row ∷ rows) torque thrust (suc k) = sums-fit rows torque thrust k
+sums-fit rows torque thrust = map-fits _ (λ row. add-fits binary32 _ _) rows
 
 pub plain-to-one : (torque : List Float) (thrust : Float)
     → lt 1f (largest (rawSums quadRows torque thrust)) ≡ true → le (largest (rawSums quadRows torque thrust)) wholeEnd ≡ true

@@ -7,13 +7,13 @@ use lib.Ieee.{Float, binary32, fits}
 use lib.Ieee.Fits.{add-fits, mul-fits}
 use Rattle.binary32.specs.Arithmetic.{_+f_, _*f_, 1f}
 use Rattle.number.specs.Treat.{limited}
-use Rattle.rules.specs.Rows.{Row, rollOf, pitchOf, yawOf}
+use Rattle.rules.specs.Rows.{Row}
 use Rattle.rules.specs.Command.{roll, pitch, yaw, collective}
 use Rattle.rules.specs.Priority.{yawGroup, rollPitchGroup, yawScale, rollPitchScale, priorityMotor, priorityMotors}
 use Rattle.rules.specs.Promises.{Each, FitsBothOrders}
-use Rattle.rules.proofs.Clamp.{Floor, limited-floor, treated-fits}
-use Rattle.rules.proofs.FittingSum.{scale-one-first, fitting-sum, fitting-scale}
 use Rattle.rules.proofs.Lists.{each-same}
+use Rattle.rules.proofs.Clamp.{Floor, limited-floor, treated-finite}
+use Rattle.rules.proofs.FittingSum.{scale-one-first, fitting-sum, fitting-scale}
 
 -- ---- the two scales, and one motor
 
@@ -35,11 +35,11 @@ module _ (torque : List Float) (thrust floor : Float) (hf : T (fits binary32 flo
 
   roll-pitch-fits : (row : Row) → T (fits binary32 (rp row))
   unfolding rollPitchGroup
-  roll-pitch-fits row = treated-fits _ (add-fits binary32 (rollOf row *f roll torque) (pitchOf row *f pitch torque))
+  roll-pitch-fits row = treated-finite _ (add-fits binary32 _ _) .fits
 
   yaw-fits : (row : Row) → T (fits binary32 (y row))
   unfolding yawGroup
-  yaw-fits row = treated-fits _ (mul-fits binary32 (yawOf row) (yaw torque))
+  yaw-fits row = treated-finite _ (mul-fits binary32 _ _) .fits
 
   lo-floor : Floor lo
   lo-floor = limited-floor floor hf

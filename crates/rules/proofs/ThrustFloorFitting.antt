@@ -13,25 +13,25 @@ use Rattle.rules.specs.Rows.{Row}
 use Rattle.rules.specs.Command.{roll, pitch, yaw, collective, delta, deltas}
 use Rattle.rules.specs.ThrustFloor.{oneScale, scaledMotor, scaledMotors, thrustFloorScale, thrustFloorMotors}
 use Rattle.rules.specs.Promises.{Each, Fits, SumRounded}
-use Rattle.rules.proofs.Clamp.{Floor, limited-floor, collective-floor}
-use Rattle.rules.proofs.FittingSum.{delta-fits, scale-one-first, fitting-sum, fitting-scale}
 use Rattle.rules.proofs.Lists.{each-of-map, each-motor}
+use Rattle.rules.proofs.Clamp.{Floor, limited-floor, delta-finite, collective-floor}
+use Rattle.rules.proofs.FittingSum.{scale-one-first, fitting-sum, fitting-scale}
 
 -- ---- one base, and d is what is asked of a rotor
 
-module _ {lo base : Float} (l : Floor lo) (b : Finite binary32 base) (d : Row → Float) (fd : (row : Row) → T (fits binary32 (d row))) where
+module _ {lo base : Float} (l : Floor lo) (b : Finite binary32 base) (d : Row → Float) (hd : (row : Row) → Finite binary32 (d row)) where
   abbrev Fitting : Row → Type 0
   Fitting row = SumWithin lo 1f base (d row)
 
   one-scale : (rows : List Row) → Each Fitting rows → oneScale lo base (map d rows) ≡ 1f
   unfolding oneScale
-  one-scale rows w = rw map-map (fitting-scale l Fitting (λ row. base) d (λ row. b .fits) fd (λ row v. v) rows w)
+  one-scale rows w = rw map-map (fitting-scale l Fitting (λ row. base) d (λ row. b .fits) (λ row. hd row .fits) (λ row v. v) rows w)
 
   fitting-motor : (row : Row) → Fitting row → SumRounded base (d row) (scaledMotor lo base 1f (d row))
   unfolding scaledMotor
   fitting-motor row v =
-      let s = fitting-sum l (b .fits) (fd row) v in
-      rw (scale-one-first (d row) (fd row), s .kept) (s .rounded)
+      let s = fitting-sum l (b .fits) (hd row .fits) v in
+      rw (scale-one-first (d row) (hd row .fits), s .kept) (s .rounded)
 
   fitting-motors : (rows : List Row) → Each Fitting rows → EachMotor (SumRounded base) (map d rows) (scaledMotors lo base (map d rows))
   unfolding scaledMotors
@@ -48,8 +48,8 @@ pub thrust-floor-fitting : (rows : List Row) (torque : List Float) (thrust floor
 unfolding deltas thrustFloorScale thrustFloorMotors
 thrust-floor-fitting rows torque thrust floor ht hf w =
     let d = delta (roll torque) (pitch torque) (yaw torque) in
-    let fd = delta-fits (roll torque) (pitch torque) (yaw torque) in
+    let hd = delta-finite (roll torque) (pitch torque) (yaw torque) in
     let l = limited-floor floor hf in
     let b = collective-floor thrust floor ht hf .finite in
     let each = each-of-map (SumWithin (limited floor) 1f (collective thrust floor)) d rows w in
-    (fitting-motors l b d fd rows each, one-scale l b d fd rows each)
+    (fitting-motors l b d hd rows each, one-scale l b d hd rows each)

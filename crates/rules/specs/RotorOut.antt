@@ -10,7 +10,6 @@ use Rattle.number.specs.Treat.{treated, clamped, limited, floorClamp}
 use Rattle.fit.specs.Fit.{fitScale}
 use Rattle.solve.specs.Solve.{solution}
 use Rattle.rules.specs.Rows.{Row, rollOf, pitchOf, quadRows}
-use Rattle.rules.specs.Command.{roll, pitch}
 
 -- 3 and 8
 abbrev pub 3f : Float

@@ -21,7 +21,14 @@ shifted-requires c κs = search needs
 
 returns : tie.Need-returns
 unfolding airmodeMotors
-returns c = simp (c .shifted .ensures, c .before .unshifted .ensures, c .before .before .deltas .ensures, c .before .before .before .limit2 .ensures, c .before .before .before .before .limit .ensures)
+returns c =
+    simp (
+      c .shifted .ensures,
+      c .before .unshifted .ensures,
+      c .before .before .deltas .ensures,
+      c .before .before .before .limit2 .ensures,
+      c .before .before .before .before .limit .ensures,
+    )
 
 pub motors-spec : {M : Type 1} → statement M
 motors-spec =

@@ -1,6 +1,5 @@
 -- `airmode::shifted` meets its contract: each of the four numbers, shifted and clamped. Assumes nothing.
 use mathlib.Core.Path.{_≡_, sym, ap}
-use mathlib.Core.List.{List}
 use mathlib.Core.List.{map}
 use native.Mathlib.Omega.{arith}
 use borrow.Author.Needs.{needs}
@@ -54,7 +53,15 @@ returns c =
     let idle = args .idle in
     let m = args .t2 in
     let length : length m ≡ 4 = omega arith in
-    simp (c .clamp-floor4 .ensures, c .before .clamp-floor3 .ensures, c .before .before .clamp-floor2 .ensures, c .before .before .before .clamp-floor .ensures, c .before .before .before .before .shift .ensures, c .before .before .before .before .before .largest .ensures, c .before .before .before .before .before .before .least .ensures) (ap (map (λ (x : Float). floorClamp (x +f shift idle (least m) (largest m)) idle)) (sym (four m length)))
+    simp (
+      c .clamp-floor4 .ensures,
+      c .before .clamp-floor3 .ensures,
+      c .before .before .clamp-floor2 .ensures,
+      c .before .before .before .clamp-floor .ensures,
+      c .before .before .before .before .shift .ensures,
+      c .before .before .before .before .before .largest .ensures,
+      c .before .before .before .before .before .before .least .ensures,
+    ) (ap (map (λ (x : Float). floorClamp (x +f shift idle (least m) (largest m)) idle)) (sym (four m length)))
 
 pub shifted-spec : {M : Type 1} → statement M
 shifted-spec =

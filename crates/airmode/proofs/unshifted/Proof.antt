@@ -1,6 +1,5 @@
 -- `airmode::unshifted` meets its contract: the thrust and each of the four deltas, scaled. Assumes nothing.
 use mathlib.Core.Path.{_≡_, sym, ap}
-use mathlib.Core.List.{List}
 use mathlib.Core.List.{map}
 use native.Mathlib.Omega.{arith}
 use borrow.Author.Needs.{needs}
@@ -36,7 +35,10 @@ returns c =
     let args = c .before .before .args in
     let d = args .t3 in
     let length : length d ≡ 4 = omega arith in
-    simp (c .spread-scale .ensures, c .before .spread .ensures) (ap (map (λ (x : Float). args .t +f x *f spreadScale (args .idle) (spread d))) (sym (four d length)))
+    simp (
+      c .spread-scale .ensures,
+      c .before .spread .ensures,
+    ) (ap (map (λ (x : Float). args .t +f x *f spreadScale (args .idle) (spread d))) (sym (four d length)))
 
 pub unshifted-spec : {M : Type 1} → statement M
 unshifted-spec =

@@ -49,7 +49,19 @@ clamp-floor-requires-4 c κs = search needs
 
 returns : tie.Need-returns
 unfolding quadRows rawSums lowered plainMotors
-returns c = simp (c .clamp-floor4 .ensures, c .before .lower4 .ensures, c .before .before .clamp-floor3 .ensures, c .before .before .before .lower3 .ensures, c .before .before .before .before .clamp-floor2 .ensures, c .before .before .before .before .before .lower2 .ensures, c .before .before .before .before .before .before .clamp-floor .ensures, c .before .before .before .before .before .before .before .lower .ensures, c .before .before .before .before .before .before .before .before .largest .ensures, c .before .before .before .before .before .before .before .before .before .raw-sums .ensures)
+returns c =
+    simp (
+      c .clamp-floor4 .ensures,
+      c .before .lower4 .ensures,
+      c .before .before .clamp-floor3 .ensures,
+      c .before .before .before .lower3 .ensures,
+      c .before .before .before .before .clamp-floor2 .ensures,
+      c .before .before .before .before .before .lower2 .ensures,
+      c .before .before .before .before .before .before .clamp-floor .ensures,
+      c .before .before .before .before .before .before .before .lower .ensures,
+      c .before .before .before .before .before .before .before .before .largest .ensures,
+      c .before .before .before .before .before .before .before .before .before .raw-sums .ensures,
+    )
 
 pub motors-spec : {M : Type 1} → statement M
 motors-spec =

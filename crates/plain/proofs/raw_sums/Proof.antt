@@ -52,7 +52,17 @@ raw-sum-requires-4 c κs = search needs
 
 returns : tie.Need-returns
 unfolding quadRows rawSums
-returns c = simp (c .raw-sum4 .ensures, c .before .before .raw-sum3 .ensures, c .before .before .before .before .raw-sum2 .ensures, c .before .before .before .before .before .before .raw-sum .ensures, c .before .before .before .before .before .before .before .before .sanitise4 .ensures, c .before .before .before .before .before .before .before .before .before .sanitise3 .ensures, c .before .before .before .before .before .before .before .before .before .before .sanitise2 .ensures, c .before .before .before .before .before .before .before .before .before .before .before .sanitise .ensures)
+returns c =
+    simp (
+      c .raw-sum4 .ensures,
+      c .before .before .raw-sum3 .ensures,
+      c .before .before .before .before .raw-sum2 .ensures,
+      c .before .before .before .before .before .before .raw-sum .ensures,
+      c .before .before .before .before .before .before .before .before .sanitise4 .ensures,
+      c .before .before .before .before .before .before .before .before .before .sanitise3 .ensures,
+      c .before .before .before .before .before .before .before .before .before .before .sanitise2 .ensures,
+      c .before .before .before .before .before .before .before .before .before .before .before .sanitise .ensures,
+    )
 
 pub raw-sums-spec : {M : Type 1} → statement M
 raw-sums-spec =

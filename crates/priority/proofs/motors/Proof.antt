@@ -73,7 +73,20 @@ priority-motor-requires-4 c κs = search needs
 
 returns : tie.Need-returns
 unfolding quadRows priorityMotors
-returns c = simp (c .priority-motor4 .ensures, c .before .priority-motor3 .ensures, c .before .before .priority-motor2 .ensures, c .before .before .before .priority-motor .ensures, c .before .before .before .before .roll-pitch-scale .ensures, c .before .before .before .before .before .yaw-scale .ensures, c .before .before .before .before .before .before .roll-pitch-groups .ensures, c .before .before .before .before .before .before .before .yaw-groups .ensures, c .before .before .before .before .before .before .before .before .lift .ensures, c .before .before .before .before .before .before .before .before .before .limit2 .ensures, c .before .before .before .before .before .before .before .before .before .before .limit .ensures)
+returns c =
+    simp (
+      c .priority-motor4 .ensures,
+      c .before .priority-motor3 .ensures,
+      c .before .before .priority-motor2 .ensures,
+      c .before .before .before .priority-motor .ensures,
+      c .before .before .before .before .roll-pitch-scale .ensures,
+      c .before .before .before .before .before .yaw-scale .ensures,
+      c .before .before .before .before .before .before .roll-pitch-groups .ensures,
+      c .before .before .before .before .before .before .before .yaw-groups .ensures,
+      c .before .before .before .before .before .before .before .before .lift .ensures,
+      c .before .before .before .before .before .before .before .before .before .limit2 .ensures,
+      c .before .before .before .before .before .before .before .before .before .before .limit .ensures,
+    )
 
 pub motors-spec : {M : Type 1} → statement M
 motors-spec =

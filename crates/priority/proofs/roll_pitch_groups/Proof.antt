@@ -36,7 +36,15 @@ roll-pitch-group-requires-4 c κs = search needs
 
 returns : tie.Need-returns
 unfolding quadRows
-returns c = simp (c .roll-pitch-group4 .ensures, c .before .before .roll-pitch-group3 .ensures, c .before .before .before .before .roll-pitch-group2 .ensures, c .before .before .before .before .before .before .roll-pitch-group .ensures, c .before .before .before .before .before .before .before .before .sanitise2 .ensures, c .before .before .before .before .before .before .before .before .before .sanitise .ensures)
+returns c =
+    simp (
+      c .roll-pitch-group4 .ensures,
+      c .before .before .roll-pitch-group3 .ensures,
+      c .before .before .before .before .roll-pitch-group2 .ensures,
+      c .before .before .before .before .before .before .roll-pitch-group .ensures,
+      c .before .before .before .before .before .before .before .before .sanitise2 .ensures,
+      c .before .before .before .before .before .before .before .before .before .sanitise .ensures,
+    )
 
 pub roll-pitch-groups-spec : {M : Type 1} → statement M
 roll-pitch-groups-spec =

@@ -33,7 +33,14 @@ yaw-group-requires-4 c κs = search needs
 
 returns : tie.Need-returns
 unfolding quadRows
-returns c = simp (c .yaw-group4 .ensures, c .before .before .yaw-group3 .ensures, c .before .before .before .before .yaw-group2 .ensures, c .before .before .before .before .before .before .yaw-group .ensures, c .before .before .before .before .before .before .before .before .sanitise .ensures)
+returns c =
+    simp (
+      c .yaw-group4 .ensures,
+      c .before .before .yaw-group3 .ensures,
+      c .before .before .before .before .yaw-group2 .ensures,
+      c .before .before .before .before .before .before .yaw-group .ensures,
+      c .before .before .before .before .before .before .before .before .sanitise .ensures,
+    )
 
 pub yaw-groups-spec : {M : Type 1} → statement M
 yaw-groups-spec =

@@ -27,7 +27,14 @@ allotted-requires c κs = search needs
 
 returns : tie.Need-returns
 unfolding rotorOutMotors
-returns c = simp (c .allotted .ensures, c .before .tilt2 .ensures, c .before .before .tilt .ensures, c .before .before .before .limit2 .ensures, c .before .before .before .before .limit .ensures)
+returns c =
+    simp (
+      c .allotted .ensures,
+      c .before .tilt2 .ensures,
+      c .before .before .tilt .ensures,
+      c .before .before .before .limit2 .ensures,
+      c .before .before .before .before .limit .ensures,
+    )
 
 pub motors-spec : {M : Type 1} → statement M
 motors-spec =

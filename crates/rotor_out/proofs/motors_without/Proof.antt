@@ -27,7 +27,14 @@ motor-without-requires-4 c κs = search needs
 
 returns : tie.Need-returns
 unfolding motorsWithout
-returns c = simp (c .motor-without4 .ensures, c .before .motor-without3 .ensures, c .before .before .motor-without2 .ensures, c .before .before .before .motor-without .ensures, c .before .before .before .before .scale .ensures .is)
+returns c =
+    simp (
+      c .motor-without4 .ensures,
+      c .before .motor-without3 .ensures,
+      c .before .before .motor-without2 .ensures,
+      c .before .before .before .motor-without .ensures,
+      c .before .before .before .before .scale .ensures .is,
+    )
 
 pub motors-without-spec : {M : Type 1} → statement M
 motors-without-spec =

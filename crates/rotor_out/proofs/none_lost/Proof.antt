@@ -30,7 +30,13 @@ tilt-motor-requires-4 c κs = search needs
 
 returns : tie.Need-returns
 unfolding quadRows
-returns c = simp (c .tilt-motor4 .ensures, c .before .before .tilt-motor3 .ensures, c .before .before .before .before .tilt-motor2 .ensures, c .before .before .before .before .before .before .tilt-motor .ensures)
+returns c =
+    simp (
+      c .tilt-motor4 .ensures,
+      c .before .before .tilt-motor3 .ensures,
+      c .before .before .before .before .tilt-motor2 .ensures,
+      c .before .before .before .before .before .before .tilt-motor .ensures,
+    )
 
 pub none-lost-spec : {M : Type 1} → statement M
 none-lost-spec =

@@ -49,7 +49,16 @@ delta-requires-4 c κs = search needs
 
 returns : tie.Need-returns
 unfolding quadRows deltas
-returns c = simp (c .delta4 .ensures, c .before .before .delta3 .ensures, c .before .before .before .before .delta2 .ensures, c .before .before .before .before .before .before .delta .ensures, c .before .before .before .before .before .before .before .before .sanitise3 .ensures, c .before .before .before .before .before .before .before .before .before .sanitise2 .ensures, c .before .before .before .before .before .before .before .before .before .before .sanitise .ensures)
+returns c =
+    simp (
+      c .delta4 .ensures,
+      c .before .before .delta3 .ensures,
+      c .before .before .before .before .delta2 .ensures,
+      c .before .before .before .before .before .before .delta .ensures,
+      c .before .before .before .before .before .before .before .before .sanitise3 .ensures,
+      c .before .before .before .before .before .before .before .before .before .sanitise2 .ensures,
+      c .before .before .before .before .before .before .before .before .before .before .sanitise .ensures,
+    )
 
 pub deltas-spec : {M : Type 1} → statement M
 deltas-spec =

@@ -1,11 +1,8 @@
 -- `rotors::torque::column_sum` meets its contract: four products, added in order. Assumes nothing.
 use mathlib.Core.Path.{_≡_, sym, ap}
-use mathlib.Core.List.{List}
 use native.Mathlib.Omega.{arith}
 use borrow.Author.Needs.{needs}
-use lib.ListN.{length}
-use lib.Ieee.{Float}
-use lib.ListN.{getD}
+use lib.ListN.{length, getD}
 use lib.Ieee.{nan}
 use Rattle.binary32.specs.Arithmetic.{0f}
 use Rattle.rules.specs.Rows.{Row, quadRows}
