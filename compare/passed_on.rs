@@ -1,6 +1,14 @@
 /// Appended by compare/run to its copy of relay-mix-quad, and no part of that crate: the private
-/// functions that are compared, passed on as they are.
+/// functions that are compared, passed on as they are, and a state of any bits.
 pub mod passed_on {
+    #[inline]
+    pub fn mixer(last_motors: [f32; 4], last_torque_scale: f32) -> super::QuadMixer {
+        super::QuadMixer {
+            last_motors,
+            last_torque_scale,
+        }
+    }
+
     #[inline]
     pub fn sanitise(x: f32) -> f32 {
         super::sanitise(x)

@@ -19,7 +19,7 @@ pub trait Answer: Hex {
 
 /// One function: its inputs, and how many answers of a range of cases differ.
 pub struct Row {
-    pub name: &'static str,
+    pub name: String,
     pub kinds: String,
     pub cases: u64,
     compare: Box<dyn Fn(Range<u64>, &mut Tally) + Sync>,
@@ -27,14 +27,14 @@ pub struct Row {
 
 /// A row of a table: both sides of a function, and the inputs that it is compared on.
 pub fn row<I: Hex, A: Answer>(
-    name: &'static str,
+    name: impl Into<String>,
     inputs: Inputs<impl Fn(u64) -> I + Sync + 'static>,
     ours: impl Fn(&I) -> A + Sync + 'static,
     rust: impl Fn(&I) -> A + Sync + 'static,
 ) -> Row {
     let make = inputs.make;
     Row {
-        name,
+        name: name.into(),
         kinds: inputs.kinds,
         cases: inputs.cases,
         compare: Box::new(move |cases, tally| {
@@ -185,22 +185,22 @@ impl<const N: usize> Answer for [u8; N] {
     }
 }
 
-impl Hex for [f32] {
+impl<A: Hex> Hex for [A] {
     fn hex(&self) -> String {
         let all: Vec<String> = self.iter().map(Hex::hex).collect();
         format!("[{}]", all.join(" "))
     }
 }
 
-impl<const N: usize> Hex for [f32; N] {
+impl<A: Hex, const N: usize> Hex for [A; N] {
     fn hex(&self) -> String {
         self[..].hex()
     }
 }
 
-impl<const N: usize> Answer for [f32; N] {
+impl<A: Answer, const N: usize> Answer for [A; N] {
     #[inline]
-    fn same(&self, other: &[f32; N]) -> bool {
+    fn same(&self, other: &[A; N]) -> bool {
         self.iter().zip(other).all(|(a, b)| a.same(b))
     }
 }

@@ -81,9 +81,9 @@ pub fn every_float_and_floor() -> Inputs<impl Fn(u64) -> (f32, f32)> {
 // ---- numbers
 
 /// The least float above 0, the next below 1 and the next above 1.
-const LEAST: f32 = f32::from_bits(1);
-const BELOW_ONE: f32 = 1.0 - f32::EPSILON / 2.0;
-const ABOVE_ONE: f32 = 1.0 + f32::EPSILON;
+pub const LEAST: f32 = f32::from_bits(1);
+pub const BELOW_ONE: f32 = 1.0 - f32::EPSILON / 2.0;
+pub const ABOVE_ONE: f32 = 1.0 + f32::EPSILON;
 
 /// Both zeros, the ends of the format, and the thresholds of the rules.
 pub const SPECIAL: [f32; 38] = [
@@ -156,16 +156,16 @@ impl Random {
     }
 
     /// A number under k.
-    fn below(&mut self, k: u64) -> u64 {
+    pub fn below(&mut self, k: u64) -> u64 {
         ((self.next() >> 32) * k) >> 32
     }
 
-    fn one_of(&mut self, from: &[f32]) -> f32 {
+    pub fn one_of(&mut self, from: &[f32]) -> f32 {
         from[self.below(from.len() as u64) as usize]
     }
 
     /// x, or a float at most four places from it.
-    fn near(&mut self, x: f32) -> f32 {
+    pub fn near(&mut self, x: f32) -> f32 {
         stepped(x, self.below(9) as i32 - 4)
     }
 
@@ -175,7 +175,7 @@ impl Random {
     }
 
     /// From 0 up to 1, the end left out.
-    fn unit(&mut self) -> f32 {
+    pub fn unit(&mut self) -> f32 {
         (self.next() >> 40) as f32 / 16_777_216.0
     }
 

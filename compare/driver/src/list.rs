@@ -10,11 +10,18 @@
 
 // Only a part of each of these is used here: the rest is the program compare's.
 #[allow(dead_code)]
+mod chains;
+#[allow(dead_code)]
+mod commands;
+#[allow(dead_code)]
 mod compare;
 #[allow(dead_code)]
 mod inputs;
+mod list_quad;
 #[allow(dead_code)]
 mod rust;
+#[allow(dead_code)]
+mod special;
 
 use std::path::Path;
 use std::process::ExitCode;
@@ -60,6 +67,7 @@ fn list() -> List {
     list.add("det3", 7, 256, systems(), |s| one(&s.a, rust::det3(s)));
     list.add("solve3", 8, 512, systems(), solve3);
     list.add("solve3, rotor-out", 8, 256, rotor_out_systems(), solve3);
+    list_quad::add_quad(&mut list);
     list
 }
 
@@ -153,14 +161,17 @@ impl List {
         record: impl Fn(&I) -> Record,
     ) {
         for n in 0..count {
-            let (inputs, answers) = record(&(inputs.make)(n));
-            let head = kind << 24 | (answers.len() as u32) << 16 | inputs.len() as u32;
-            self.words.push(head);
-            self.words.extend(inputs);
-            self.words.extend(answers);
-            self.records += 1;
+            self.push(kind, record(&(inputs.make)(n)));
         }
         println!("{name}: {count}, {}", inputs.kinds);
+    }
+
+    fn push(&mut self, kind: u32, (inputs, answers): Record) {
+        let head = kind << 24 | (answers.len() as u32) << 16 | inputs.len() as u32;
+        self.words.push(head);
+        self.words.extend(inputs);
+        self.words.extend(answers);
+        self.records += 1;
     }
 
     fn write(&self, folder: &Path) -> io::Result<()> {

@@ -1,19 +1,24 @@
 //! Compares our functions with the Rust's by running both. compare/run builds and starts it.
 //!
-//!   --quick   the first 1024th of every row
+//!   --quick   the first 1024th of every row, and at least 1024 cases where it has as many
 //!   --wrong   functions that are wrong on purpose, in the place of ours
 //!   --findings   the findings of docs/DIFFERENCES.md, on the Rust alone
 //!
 //! Exit status 0: no answer differs; with --wrong: each wrong function was noticed; with
 //! --findings: each answer is the stated one.
 
+mod chains;
+mod commands;
 mod compare;
 mod findings;
 mod inputs;
 mod ours;
+mod quad_table;
 mod rust;
+mod special;
 mod table;
 mod wrong;
+mod wrong_quad;
 
 use std::process::ExitCode;
 
@@ -35,15 +40,23 @@ fn main() -> ExitCode {
     let good = if findings {
         run_findings()
     } else if wrong {
-        notice_all(&wrong::wrong_table(), quick)
+        notice_all(
+            &joined(wrong::wrong_table(), wrong_quad::wrong_quad_table()),
+            quick,
+        )
     } else {
-        compare_all(&table::table(), quick)
+        compare_all(&joined(table::table(), quad_table::quad_table()), quick)
     };
     if good {
         ExitCode::SUCCESS
     } else {
         ExitCode::FAILURE
     }
+}
+
+fn joined(mut rows: Vec<Row>, more: Vec<Row>) -> Vec<Row> {
+    rows.extend(more);
+    rows
 }
 
 /// Compares every row, and says whether no answer differs.
@@ -89,7 +102,7 @@ fn run_findings() -> bool {
 /// How many cases of a row are run.
 fn cases(row: &Row, quick: bool) -> u64 {
     if quick {
-        row.cases / 1024
+        row.cases.min(1024).max(row.cases / 1024)
     } else {
         row.cases
     }

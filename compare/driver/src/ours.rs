@@ -2,6 +2,8 @@
 //! length, a reference to an array as a pointer. Nothing checks these declarations against the
 //! Rattle source. The calls are all that is unsafe in this program.
 
+use crate::commands::{Call, Mix, State};
+
 mod probes {
     extern "C" {
         pub fn probe_is_finite(x: f32) -> bool;
@@ -26,6 +28,44 @@ mod probes {
         pub fn probe_read_u32(s: *const u8, n: usize, at: usize) -> u32;
         pub fn probe_write_u16(out: *mut u8, n: usize, at: usize, x: u16);
         pub fn probe_write_u32(out: *mut u8, n: usize, at: usize, x: u32);
+        pub fn probe_quad_new(out: *mut [f32; 5]);
+        pub fn probe_quad_readers(state: *const [f32; 5], out: *mut [f32; 5]);
+        pub fn probe_quad_mix(
+            state: *const [f32; 5],
+            torque: *const [f32; 3],
+            thrust: f32,
+            out: *mut [f32; 5],
+        );
+        pub fn probe_quad_mix_thrust_floor(
+            state: *const [f32; 5],
+            torque: *const [f32; 3],
+            thrust: f32,
+            floor: f32,
+            out: *mut [f32; 5],
+        );
+        pub fn probe_quad_mix_priority(
+            state: *const [f32; 5],
+            torque: *const [f32; 3],
+            thrust: f32,
+            floor: f32,
+            out: *mut [f32; 5],
+        );
+        pub fn probe_quad_mix_airmode(
+            state: *const [f32; 5],
+            torque: *const [f32; 3],
+            thrust: f32,
+            idle: f32,
+            out: *mut [f32; 5],
+        );
+        pub fn probe_quad_mix_rotor_out(
+            state: *const [f32; 5],
+            failed: usize,
+            torque: *const [f32; 3],
+            thrust: f32,
+            floor: f32,
+            out: *mut [f32; 5],
+        );
+        pub fn probe_quad_motors_to_torque_signs(motors: *const [f32; 4], out: *mut [f32; 3]);
     }
 }
 
@@ -92,11 +132,14 @@ pub fn det3(a: &[f32; 9]) -> f32 {
     unsafe { probes::probe_det3(a) }
 }
 
-/// Whether there is a solution, and the three numbers. Before the call they are a number that no
-/// input leads to, so that one which is left as lent shows.
+/// What stands in a lent array before the call: a number that no input leads to, so that one which
+/// is left as lent shows.
+const LENT: f32 = f32::from_bits(0x5aa5_5aa5);
+
+/// Whether there is a solution, and the three numbers.
 #[inline]
 pub fn solve3(a: &[f32; 9], rhs: &[f32; 3]) -> (bool, [f32; 3]) {
-    let mut x = [f32::from_bits(0x5aa5_5aa5); 3];
+    let mut x = [LENT; 3];
     let found = unsafe { probes::probe_solve3(a, rhs, &mut x) };
     (found, x)
 }
@@ -119,4 +162,52 @@ pub fn write_u16(out: &mut [u8], at: usize, x: u16) {
 #[inline]
 pub fn write_u32(out: &mut [u8], at: usize, x: u32) {
     unsafe { probes::probe_write_u32(out.as_mut_ptr(), out.len(), at, x) }
+}
+
+// ---- the quad
+
+#[inline]
+pub fn quad_new() -> State {
+    let mut out = [LENT; 5];
+    unsafe { probes::probe_quad_new(&mut out) };
+    out
+}
+
+#[inline]
+pub fn quad_readers(state: &State) -> State {
+    let mut out = [LENT; 5];
+    unsafe { probes::probe_quad_readers(state, &mut out) };
+    out
+}
+
+/// The state after a call.
+#[inline]
+pub fn quad_mixed(state: &State, call: &Call) -> State {
+    let Call {
+        torque,
+        thrust,
+        floor,
+        ..
+    } = *call;
+    let mut out = [LENT; 5];
+    let (from, to) = (&torque, &mut out);
+    unsafe {
+        match call.mix {
+            Mix::Plain => probes::probe_quad_mix(state, from, thrust, to),
+            Mix::ThrustFloor => probes::probe_quad_mix_thrust_floor(state, from, thrust, floor, to),
+            Mix::Priority => probes::probe_quad_mix_priority(state, from, thrust, floor, to),
+            Mix::Airmode => probes::probe_quad_mix_airmode(state, from, thrust, floor, to),
+            Mix::RotorOut => {
+                probes::probe_quad_mix_rotor_out(state, call.rotor, from, thrust, floor, to)
+            }
+        }
+    }
+    out
+}
+
+#[inline]
+pub fn torque_signs(motors: &[f32; 4]) -> [f32; 3] {
+    let mut out = [LENT; 3];
+    unsafe { probes::probe_quad_motors_to_torque_signs(motors, &mut out) };
+    out
 }

@@ -1,7 +1,9 @@
 //! The Rust's side, where it takes more than a call.
 
 use relay_mix_quad::passed_on as quad;
+use relay_mix_quad::QuadMixer;
 
+use crate::commands::{Call, Mix, State};
 use crate::inputs::{Fit, System};
 
 /// The limited thrust or floor.
@@ -35,4 +37,33 @@ pub fn det3(s: &System) -> f32 {
 pub fn solve3(s: &System) -> (bool, [f32; 3]) {
     let x = quad::solve3(s.rows(), s.rhs);
     (x.is_some(), x.unwrap_or([0.0; 3]))
+}
+
+// ---- the quad
+
+pub fn mixer(&[a, b, c, d, scale]: &State) -> QuadMixer {
+    quad::mixer([a, b, c, d], scale)
+}
+
+/// What the two readers give.
+pub fn state(mixer: &QuadMixer) -> State {
+    let [a, b, c, d] = mixer.last_motors();
+    [a, b, c, d, mixer.last_torque_scale()]
+}
+
+/// The motors that a call returns. It changes the mixer.
+pub fn mix(mixer: &mut QuadMixer, call: &Call) -> [f32; 4] {
+    let Call {
+        torque,
+        thrust,
+        floor,
+        ..
+    } = *call;
+    match call.mix {
+        Mix::Plain => mixer.mix(torque, thrust),
+        Mix::ThrustFloor => mixer.mix_thrust_floor(torque, thrust, floor),
+        Mix::Priority => mixer.mix_priority(torque, thrust, floor),
+        Mix::Airmode => mixer.mix_airmode(torque, thrust, floor),
+        Mix::RotorOut => mixer.mix_rotor_out(call.rotor, torque, thrust, floor),
+    }
 }

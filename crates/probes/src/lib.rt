@@ -1,5 +1,7 @@
 // The inner functions, exported for comparison with the Rust alone (compare/). Each passes on what one function of a crate below gives, and its contract says
 // the same. It is no interface for an autopilot.
+mod quad_mixer;
+
 ghost use mathlib.Core.Path.{_≡_};
 ghost use lib.Ieee.{binary32, isNan, ofBits, toBits};
 ghost use lib.Ieee.Scale.{finite};

@@ -1,46 +1,51 @@
-// Our answers, kind by kind. One kind more is an arm of `answer` here, and a line in compare/driver/src/list.rs.
+// Our answers, kind by kind. One kind more is an arm of `answer` here, or in mixes.rt if it is about the quad, and a line in compare/driver/src/list.rs.
 ghost use Prim.Native.Nat.{_+_, _≤_};
 ghost use lib.ListN.{length};
+use crate::mixes;
 use number::bits::bits_of;
+use quad::QuadMixer;
 
 // The most words that the inputs and the answers of a kind take.
 pub const INPUTS: usize = 16;
 
 pub const ANSWERS: usize = 8;
 
-// What we answer, with zeros after the last word. No kind has the head where `known` is false.
+// What we answer, with zeros after the last word, and the quad's state after the record. No kind has the head where `known` is false.
 pub struct Ours {
     pub known: bool,
     pub words: [u32; ANSWERS],
+    pub state: QuadMixer,
 }
 
-// Our answer to a record, from its head and its inputs: a head is 0xKKAA_IIII, the kind, how many words the answers take and how many the inputs take.
-// `float_of` has read the inputs and `bits_of` writes the answers, so kind 4, the round trip from bits to bits, has no more to do.
-pub fn answer(head: u32, x: &[f32; INPUTS]) -> Ours {
+// Our answer to a record, from its head, its inputs and the state that the record before it left. A head is 0xKKAA_IIII: the kind, how many words the
+// answers take and how many the inputs take. `float_of` has read the inputs and `bits_of` writes the answers, so kind 4, the round trip from bits to bits, has no
+// more to do.
+pub fn answer(head: u32, x: &[f32; INPUTS], state: QuadMixer) -> Ours {
     match head {
-        0x0101_0001 => one(number::sanitise(x[0])),
-        0x0201_0001 => one(number::limit(x[0])),
-        0x0301_0001 => one(number::clamp01(x[0])),
-        0x0401_0001 => one(x[0]),
-        0x0501_0002 => one(number::clamp_floor(x[0], x[1])),
-        0x0601_0001 => one(scale(x, 0)),
-        0x0601_0003 => one(scale(x, 1)),
-        0x0601_0005 => one(scale(x, 2)),
-        0x0601_0007 => one(scale(x, 3)),
-        0x0601_0009 => one(scale(x, 4)),
-        0x0701_0009 => one(solve::det3(matrix(x))),
-        0x0804_000c => solution(x),
-        _ => Ours {
-            known: false,
-            words: [0; ANSWERS],
-        },
+        0x0101_0001 => one(state, number::sanitise(x[0])),
+        0x0201_0001 => one(state, number::limit(x[0])),
+        0x0301_0001 => one(state, number::clamp01(x[0])),
+        0x0401_0001 => one(state, x[0]),
+        0x0501_0002 => one(state, number::clamp_floor(x[0], x[1])),
+        0x0601_0001 => one(state, scale(x, 0)),
+        0x0601_0003 => one(state, scale(x, 1)),
+        0x0601_0005 => one(state, scale(x, 2)),
+        0x0601_0007 => one(state, scale(x, 3)),
+        0x0601_0009 => one(state, scale(x, 4)),
+        0x0701_0009 => one(state, solve::det3(matrix(x))),
+        0x0804_000c => solution(state, x),
+        _ => mixes::answer(head, x, state),
     }
 }
 
-fn one(x: f32) -> Ours {
+fn one(state: QuadMixer, x: f32) -> Ours {
     let mut words = [0; ANSWERS];
     words[0] = bits_of(x);
-    Ours { known: true, words }
+    Ours {
+        known: true,
+        words,
+        state,
+    }
 }
 
 // The inputs are the floor, the bases and the deltas.
@@ -58,7 +63,7 @@ fn matrix(x: &[f32; INPUTS]) -> [[f32; 3]; 3] {
 }
 
 // The inputs are the matrix and the right side. The answers are whether there is a solution, and its three numbers.
-fn solution(x: &[f32; INPUTS]) -> Ours {
+fn solution(state: QuadMixer, x: &[f32; INPUTS]) -> Ours {
     let s = solve::solve3(matrix(x), [x[9], x[10], x[11]]);
     let v = s.x;
     let mut words = [0; ANSWERS];
@@ -66,5 +71,9 @@ fn solution(x: &[f32; INPUTS]) -> Ours {
     words[1] = bits_of(v[0]);
     words[2] = bits_of(v[1]);
     words[3] = bits_of(v[2]);
-    Ours { known: true, words }
+    Ours {
+        known: true,
+        words,
+        state,
+    }
 }

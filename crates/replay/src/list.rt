@@ -9,6 +9,7 @@ use crate::answers::answer;
 use crate::show::print_difference;
 use number::bits::float_of;
 use number::bytes::read_u32;
+use quad::QuadMixer;
 
 // How many bytes there is room for: more than a list has.
 pub const ROOM: usize = 524288;
@@ -22,20 +23,23 @@ pub struct Tally {
     pub differ: usize,
 }
 
-// Replays a list. What is left after the last whole record is one difference, whatever it is.
+// Replays a list, from a new state of the quad on. What is left after the last whole record is one difference, whatever it is.
 pub fn replay(list: &[u8]) -> Tally {
     let mut compared = 0;
     let mut differ = 0;
     let mut at = 4;
+    let mut state = QuadMixer::new();
     while at < list.len() {
         let size = size_of(read_u32(list, at));
         if list.len() - at < size {
             break;
         }
         let end = at + size;
-        if !agrees(compared, &list[at..end], differ < SHOWN) {
+        let seen = compare(compared, &list[at..end], state, differ < SHOWN);
+        if !seen.agrees {
             differ += 1;
         }
+        state = seen.state;
         compared += 1;
         at = end;
     }
@@ -66,19 +70,32 @@ fn size_of(head: u32) -> usize
     answers_at(head) + 4 * ((head / 65536 % 256) as usize)
 }
 
-// Whether our answer is the Rust's. Where it is not, prints both if they are to be shown.
-fn agrees(number: usize, record: &[u8], is_shown: bool) -> bool {
+// Whether our answer is the Rust's, and the quad's state after the record.
+struct Seen {
+    agrees: bool,
+    state: QuadMixer,
+}
+
+// Works through a record, from the state that the one before it left. Where the two answers differ, prints both if they are to be shown.
+fn compare(number: usize, record: &[u8], state: QuadMixer, is_shown: bool) -> Seen {
     let head = read_u32(record, 0);
-    let ours = answer(head, &inputs(record));
+    let ours = answer(head, &inputs(record), state);
     let words = ours.words;
+    let after = ours.state;
     let told = words_from(record, answers_at(head));
     if ours.known && same(&words, &told) {
-        return true;
+        return Seen {
+            agrees: true,
+            state: after,
+        };
     }
     if is_shown {
         print_difference(number, head, ours, &told);
     }
-    false
+    Seen {
+        agrees: false,
+        state: after,
+    }
 }
 
 // The words after the head, as floats. No kind looks past its own inputs.

@@ -9,10 +9,13 @@ use Rattle.replay.proofs.list.replay.Statement.{statement}
 use Rattle.replay.proofs.list.replay.Tie as tie
 
 abbrev Inv-loop : tie.InvT-loop
-Inv-loop list compared₀ differ₀ at₀ compared differ at = (differ ≤ compared) × (compared + 4 ≤ at) × (at ≤ length list + 4)
+Inv-loop list compared₀ differ₀ at₀ state₀ compared differ at state = (differ ≤ compared) × (compared + 4 ≤ at) × (at ≤ length list + 4)
 
 abbrev μ-loop : tie.MeasureT-loop
-μ-loop list compared₀ differ₀ at₀ compared differ at = length list - at
+μ-loop list compared₀ differ₀ at₀ state₀ compared differ at state = length list - at
+
+new-requires : tie.Need-new-requires Inv-loop μ-loop
+new-requires c κs = search needs
 
 loop-holds : tie.Need-loop-holds Inv-loop μ-loop
 loop-holds c = search needs
@@ -29,17 +32,17 @@ sub-if1 c = search needs
 add-end : tie.Need-add-end Inv-loop μ-loop
 add-end c = search needs
 
-sub-agrees : tie.Need-sub-agrees Inv-loop μ-loop
-sub-agrees c = search needs
+sub-compare : tie.Need-sub-compare Inv-loop μ-loop
+sub-compare c = search needs
 
-part-agrees-start : tie.Need-part-agrees-start Inv-loop μ-loop
-part-agrees-start c = search needs
+part-compare-start : tie.Need-part-compare-start Inv-loop μ-loop
+part-compare-start c = search needs
 
-part-agrees-end : tie.Need-part-agrees-end Inv-loop μ-loop
-part-agrees-end c = search needs
+part-compare-end : tie.Need-part-compare-end Inv-loop μ-loop
+part-compare-end c = search needs
 
-agrees-requires : tie.Need-agrees-requires Inv-loop μ-loop
-agrees-requires c κs = search needs
+compare-requires : tie.Need-compare-requires Inv-loop μ-loop
+compare-requires c κs = search needs
 
 add-differ : tie.Need-add-differ Inv-loop μ-loop
 add-differ c = search needs
@@ -51,7 +54,7 @@ loop-less : tie.Need-loop-less Inv-loop μ-loop
 loop-less c = search needs
 
 loop-again : tie.Need-loop-again Inv-loop μ-loop
-loop-again c = ⊎-elim (λ w. omega arith) (λ w. omega arith) (c .if2 .came)
+loop-again c = ⊎-elim (λ w. omega arith) (λ w. omega arith) (c .before .if2 .came)
 
 is-whole-requires : tie.Need-is-whole-requires Inv-loop μ-loop
 is-whole-requires c κs = search needs
@@ -71,15 +74,16 @@ replay-spec =
     (tie.spec
     Inv-loop
     μ-loop
+    new-requires
     loop-holds
     read-u32-requires
     size-of-requires
     sub-if1
     add-end
-    sub-agrees
-    part-agrees-start
-    part-agrees-end
-    agrees-requires
+    sub-compare
+    part-compare-start
+    part-compare-end
+    compare-requires
     add-differ
     add-compared
     loop-less

@@ -1,0 +1,217 @@
+//! The quad's inputs: a state, and a call of a mix on it.
+
+use crate::compare::Hex;
+use crate::inputs::{seeded, Inputs, Random};
+use crate::special::{LIMITED, ROTORS, TORQUES};
+
+/// Four motors, then the recorded scale.
+pub type State = [f32; 5];
+
+/// What `new` gives.
+pub const FRESH: State = [0.0, 0.0, 0.0, 0.0, 1.0];
+
+#[derive(Clone, Copy)]
+pub enum Mix {
+    Plain,
+    ThrustFloor,
+    Priority,
+    Airmode,
+    RotorOut,
+}
+
+pub const MIXES: [Mix; 5] = [
+    Mix::Plain,
+    Mix::ThrustFloor,
+    Mix::Priority,
+    Mix::Airmode,
+    Mix::RotorOut,
+];
+
+impl Mix {
+    pub fn name(self) -> &'static str {
+        match self {
+            Mix::Plain => "mix",
+            Mix::ThrustFloor => "mix_thrust_floor",
+            Mix::Priority => "mix_priority",
+            Mix::Airmode => "mix_airmode",
+            Mix::RotorOut => "mix_rotor_out",
+        }
+    }
+}
+
+/// A call. Plain takes no floor, for airmode it is the idle floor, and only rotor-out takes a rotor.
+#[derive(Clone, Copy)]
+pub struct Call {
+    pub mix: Mix,
+    pub torque: [f32; 3],
+    pub thrust: f32,
+    pub floor: f32,
+    pub rotor: usize,
+}
+
+impl Hex for Call {
+    fn hex(&self) -> String {
+        let numbers = [self.thrust.hex(), self.torque.hex(), self.floor.hex()];
+        let name = self.mix.name();
+        format!("{name} {} rotor {:x}", numbers.join(" "), self.rotor)
+    }
+}
+
+// ---- states and calls of all kinds
+
+/// A fresh state, a state of any bits, or a mixture.
+pub fn state(random: &mut Random) -> State {
+    match random.below(3) {
+        0 => FRESH,
+        1 => [(); 5].map(|_| random.bits()),
+        _ => [(); 5].map(|_| random.any()),
+    }
+}
+
+/// The numbers of a command, with no mix yet.
+struct Command {
+    torque: [f32; 3],
+    thrust: f32,
+    floor: f32,
+}
+
+/// A torque that asks about this much of a motor: on one axis, or shared by two or three, with any
+/// signs.
+fn torque_of(random: &mut Random, size: f32) -> [f32; 3] {
+    let share = random.unit();
+    let shares = match random.below(4) {
+        0 => [1.0, 0.0, 0.0],
+        1 => [0.5, 0.5, 0.0],
+        2 => [0.5, 0.25, 0.25],
+        _ => [share, 1.0 - share, 0.0],
+    };
+    let first = random.below(3) as usize;
+    let mut torque = [0.0; 3];
+    for (k, share) in shares.into_iter().enumerate() {
+        let sign = random.one_of(&[1.0, -1.0]);
+        let part = size * share * sign;
+        torque[(first + k) % 3] = if share == 0.0 {
+            part
+        } else {
+            random.near(part)
+        };
+    }
+    torque
+}
+
+/// A command next to a threshold of the rules: thrust against the floor, the room above and below
+/// the collective, half of what lies between idle and 1 (a spread is twice the torque), small, 8,
+/// 2^23 and 2^24, and torques whose sums overflow.
+fn at_a_threshold(random: &mut Random) -> Command {
+    let floor = random.one_of(&[0.0, -0.0, 0.05, 0.125, 0.25, 0.3, 0.5, 1.0]);
+    let floor = random.near(floor);
+    let thrust = match random.below(4) {
+        0 => random.near(floor),
+        1 => random.unit(),
+        2 => random.one_of(&[0.0, -0.0, 0.25, 0.5, 0.75, 1.0]),
+        _ => {
+            let x = random.one_of(&[1.0, 8_388_608.0, 16_777_216.0, f32::MAX]);
+            random.near(x)
+        }
+    };
+    let base = if thrust < floor { floor } else { thrust };
+    let size = match random.below(8) {
+        0 => 1.0 - base,
+        1 => base - floor,
+        2 => 1.0 - thrust,
+        3 => 0.5 * (1.0 - floor),
+        4 => 1.0e-6,
+        5 => 8.0,
+        6 => random.one_of(&[8_388_608.0, 16_777_216.0]),
+        _ => f32::MAX,
+    };
+    let part = random.one_of(&[1.0, 1.0, 1.0, 2.0, 0.5, 0.25]);
+    Command {
+        torque: torque_of(random, size * part),
+        thrust,
+        floor,
+    }
+}
+
+/// Thrust from 0 to 1, torques from -1 to 1, a floor from 0 to 0.3.
+fn in_flight(random: &mut Random) -> Command {
+    let part = random.one_of(&[1.0, 0.25]);
+    Command {
+        torque: [(); 3].map(|_| random.flight() * part),
+        thrust: random.flight().abs(),
+        floor: 0.3 * random.flight().abs(),
+    }
+}
+
+fn command(random: &mut Random) -> Command {
+    match random.below(5) {
+        0 => Command {
+            torque: [(); 3].map(|_| random.any()),
+            thrust: random.any(),
+            floor: random.any(),
+        },
+        1 => Command {
+            torque: [(); 3].map(|_| random.one_of(&TORQUES)),
+            thrust: random.one_of(&TORQUES),
+            floor: random.one_of(&LIMITED),
+        },
+        2 => Command {
+            torque: [(); 3].map(|_| random.bits()),
+            thrust: random.bits(),
+            floor: random.bits(),
+        },
+        3 => at_a_threshold(random),
+        _ => in_flight(random),
+    }
+}
+
+/// A call of a mix with a command of any kind.
+pub fn call(random: &mut Random, mix: Mix) -> Call {
+    let Command {
+        torque,
+        thrust,
+        floor,
+    } = command(random);
+    Call {
+        mix,
+        torque,
+        thrust,
+        floor,
+        rotor: ROTORS[random.below(ROTORS.len() as u64) as usize],
+    }
+}
+
+/// One call of a mix.
+pub fn calls(mix: Mix) -> Inputs<impl Fn(u64) -> (State, Call)> {
+    const SEED: u64 = 9;
+    let kinds =
+        "any mixture, special values, any bits, thresholds, flight; state fresh, any bits, mixture";
+    seeded(kinds, SEED, 1 << 27, move |n| {
+        let mut random = Random::new(SEED, n);
+        (state(&mut random), call(&mut random, mix))
+    })
+}
+
+// ---- states and motors by themselves
+
+/// States of any bits.
+pub fn states() -> Inputs<impl Fn(u64) -> State> {
+    const SEED: u64 = 10;
+    seeded("fresh, any bits, any mixture", SEED, 1 << 24, |n| {
+        state(&mut Random::new(SEED, n))
+    })
+}
+
+/// Motors of all kinds.
+pub fn motors() -> Inputs<impl Fn(u64) -> [f32; 4]> {
+    const SEED: u64 = 11;
+    seeded("any mixture, any bits, 0..1", SEED, 1 << 26, |n| {
+        let mut random = Random::new(SEED, n);
+        let kind = random.below(3);
+        [(); 4].map(|_| match kind {
+            0 => random.any(),
+            1 => random.bits(),
+            _ => random.unit(),
+        })
+    })
+}

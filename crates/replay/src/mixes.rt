@@ -1,0 +1,82 @@
+// Our answers about the quad. A mix acts on the state that the record before it left, and its answers are what the readers say of the new state.
+use crate::answers::ANSWERS;
+use crate::answers::INPUTS;
+use crate::answers::Ours;
+use number::bits::bits_of;
+use quad::QuadMixer;
+use quad::motors_to_torque_signs;
+
+pub fn answer(head: u32, x: &[f32; INPUTS], state: QuadMixer) -> Ours {
+    match head {
+        0x0905_0005 => read(set(x)),
+        0x0a05_0000 => read(QuadMixer::new()),
+        0x0b05_0004 => read(state.mix(torque(x), x[3])),
+        0x0c05_0005 => read(state.mix_thrust_floor(torque(x), x[3], x[4])),
+        0x0d05_0005 => read(state.mix_priority(torque(x), x[3], x[4])),
+        0x0e05_0005 => read(state.mix_airmode(torque(x), x[3], x[4])),
+        0x1005_0005 => read(rotor_out(state, 0, x)),
+        0x1105_0005 => read(rotor_out(state, 1, x)),
+        0x1205_0005 => read(rotor_out(state, 2, x)),
+        0x1305_0005 => read(rotor_out(state, 3, x)),
+        0x1405_0005 => read(rotor_out(state, 4, x)),
+        0x1505_0005 => read(rotor_out(state, 255, x)),
+        0x1605_0005 => read(rotor_out(state, usize::MAX, x)),
+        0x1703_0004 => torque_of(state, x),
+        _ => Ours {
+            known: false,
+            words: [0; ANSWERS],
+            state,
+        },
+    }
+}
+
+// A new state as the answer.
+fn read(state: QuadMixer) -> Ours {
+    let m = state.last_motors();
+    let mut words = [0; ANSWERS];
+    words[0] = bits_of(m[0]);
+    words[1] = bits_of(m[1]);
+    words[2] = bits_of(m[2]);
+    words[3] = bits_of(m[3]);
+    words[4] = bits_of(state.last_torque_scale());
+    Ours {
+        known: true,
+        words,
+        state,
+    }
+}
+
+// The inputs are the state itself: the motors and the scale.
+fn set(x: &[f32; INPUTS]) -> QuadMixer {
+    QuadMixer {
+        last_motors: motors(x),
+        last_torque_scale: x[4],
+    }
+}
+
+// The inputs of a mix are the torque, the thrust and, except for the plain mix, the floor.
+fn torque(x: &[f32; INPUTS]) -> [f32; 3] {
+    [x[0], x[1], x[2]]
+}
+
+fn rotor_out(state: QuadMixer, failed: usize, x: &[f32; INPUTS]) -> QuadMixer {
+    state.mix_rotor_out(failed, torque(x), x[3], x[4])
+}
+
+fn motors(x: &[f32; INPUTS]) -> [f32; 4] {
+    [x[0], x[1], x[2], x[3]]
+}
+
+// The inputs are the motors, and the answers the three sums. The state is not asked and stays.
+fn torque_of(state: QuadMixer, x: &[f32; INPUTS]) -> Ours {
+    let sums = motors_to_torque_signs(motors(x));
+    let mut words = [0; ANSWERS];
+    words[0] = bits_of(sums[0]);
+    words[1] = bits_of(sums[1]);
+    words[2] = bits_of(sums[2]);
+    Ours {
+        known: true,
+        words,
+        state,
+    }
+}

@@ -1,0 +1,66 @@
+-- `text::write` meets its contract: a copy into the part from `at` on is a write at that place. Assumes nothing.
+use mathlib.Core.Path.{_≡_, sym, ap, _∙_}
+use mathlib.Core.List.{List, [], _++_, append-nil, append-assoc}
+use Prim.Native.Nat.{ℕ, _+_, _-_, _≤_}
+use native.Mathlib.Omega.{arith}
+use lib.ListN.{length, take, drop, length-drop, drop-of-length-le}
+use lib.Seq.{take-all, take-length, drop-drop}
+use borrow.Author.Needs.{needs}
+use borrow.Rule.Slice.PartMut.{midOf, postOf, putMid, post-is}
+use Rattle.number.specs.Bytes.{writeAt}
+use Rattle.number.proofs.LittleEndian.{writeAt-short, writeAt-fits}
+use Rattle.text.proofs.write.Statement.{statement}
+use Rattle.text.proofs.write.Tie as tie
+
+returns : tie.Need-returns
+returns c = sym (writeAt-short _ _ _ (omega arith))
+
+sub-if2 : tie.Need-sub-if2
+sub-if2 c = search needs
+
+returns-2 : tie.Need-returns-2
+returns-2 c = sym (writeAt-short _ _ _ (omega arith))
+
+sub-copy : tie.Need-sub-copy
+sub-copy c = search needs
+
+part-copy-start : tie.Need-part-copy-start
+part-copy-start c = search needs
+
+part-copy-end : tie.Need-part-copy-end
+part-copy-end c = search needs
+
+copy-requires : tie.Need-copy-requires
+copy-requires c κs = search needs
+
+same-length : tie.Need-same-length
+same-length c = search needs
+
+-- the part from `at` on put back with s at its start
+put-back : (out s : List ℕ) (at : ℕ) → at + length s ≤ length out
+    → putMid at (length out - at) out (take (length s) s ++ drop (length s) (midOf at (length out - at) out)) ≡ writeAt out at s
+put-back out s at h =
+    let end = length out in
+    let rest : midOf at (end - at) out ≡ drop at out = take-all (end - at) (drop at out) (rw length-drop (omega arith)) in
+    let after : postOf at (end - at) out ≡ [] = post-is at end out (omega arith) ∙ drop-of-length-le out {i = end} (omega arith) in
+    rw (after, rest, take-length, append-nil, drop-drop, writeAt-fits out at s h, append-assoc)
+
+returns-3 : tie.Need-returns-3
+returns-3 c =
+    let a = c .before .before .before .before .before .before .before .before .args in
+    ap (putMid (a .at) (length (a .out .now) - a .at) (a .out .now)) (c .before .before .copy .ensures .1)
+    ∙ put-back (a .out .now) (a .s .now) (a .at) (omega arith)
+
+pub write-spec : {M : Type 1} → statement M
+write-spec =
+    tie.close
+    (tie.spec
+    returns
+    sub-if2
+    returns-2
+    sub-copy
+    part-copy-start
+    part-copy-end
+    copy-requires
+    same-length
+    returns-3)
