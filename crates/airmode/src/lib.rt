@@ -1,13 +1,13 @@
 // The airmode mix: torque before thrust, with an idle floor. Follows relay-mix-quad's `mix_airmode` (Apache-2.0, see NOTICE); changed: written in Rattle with contracts, with
 // choices in the place of branches and the loops over four motors written out, and without the
 // tests there that never fail (a treated spread is finite, and so is the quotient by a spread over SMALL).
+use extremes::largest;
+use extremes::least;
 use number::clamp_floor;
 use number::limit;
 use number::pick;
 use number::sanitise;
 use rotors::command::deltas;
-use rotors::extremes::largest;
-use rotors::extremes::least;
 ghost use mathlib.Core.Path.{_≡_};
 ghost use Rattle.rules.specs.Rows.{quadRows};
 ghost use Rattle.rules.specs.Airmode.{spread, spreadScale, unshifted, shift, shifted, airmodeMotors};

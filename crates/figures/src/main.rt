@@ -3,9 +3,9 @@
 // document says they are.
 mod show;
 
-use number::bits::float_of;
 use quad::QuadMixer;
 use show::print;
+use wire::bits::float_of;
 
 // 2^24, and 4 more.
 const POWER_24: f32 = 16777216.0;

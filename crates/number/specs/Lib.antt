@@ -1,2 +1,1 @@
 pub mod Treat
-pub mod Bytes

@@ -2,9 +2,6 @@
 //
 // `sanitise`, `clamp_floor` and the clamping in `limit` follow relay-mix-quad, `clamp01` follows relay-mix-multi (Apache-2.0, see NOTICE); changed: written in
 // Rattle with contracts, on one `clamp` of our own, and with choices in the place of branches.
-pub mod bits;
-pub mod bytes;
-
 ghost use mathlib.Core.Path.{_≡_};
 ghost use mathlib.Core.Bool.{cond};
 ghost use lib.Ieee.{isNan};

@@ -1,9 +1,9 @@
 // The plain mix: torque before thrust. Follows relay-mix-quad's `mix` (Apache-2.0, see NOTICE); changed: written in Rattle with contracts, with
 // choices in the place of branches and the loops over four motors written out.
+use extremes::largest;
 use number::clamp_floor;
 use number::pick;
 use number::sanitise;
-use rotors::extremes::largest;
 use rotors::rows::MIXER_X;
 ghost use mathlib.Core.Path.{_≡_};
 ghost use Rattle.rules.specs.Rows.{quadRows};

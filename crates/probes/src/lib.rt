@@ -6,7 +6,7 @@ ghost use mathlib.Core.Path.{_≡_};
 ghost use lib.Ieee.{binary32, isNan, ofBits, toBits};
 ghost use lib.Ieee.Scale.{finite};
 ghost use Rattle.number.specs.Treat.{treated, clamped, limited, floorClamp, unitClamp};
-ghost use Rattle.number.specs.Bytes.{bytesOf, readAt, writeAt};
+ghost use Rattle.wire.specs.Bytes.{bytesOf, readAt, writeAt};
 ghost use Rattle.fit.specs.Fit.{fitScale};
 ghost use Rattle.solve.specs.Solve.{entry, determinant, solution};
 ghost use Rattle.probes.specs.Matrix.{rows};
@@ -64,42 +64,42 @@ pub extern "C" fn probe_clamp01(x: f32) -> f32
 pub extern "C" fn probe_float_of(bits: u32) -> f32
     ensures { λ r. ⌜ r ≡ ofBits binary32 bits ⌝ }
 {
-    number::bits::float_of(bits)
+    wire::bits::float_of(bits)
 }
 
 #[no_mangle]
 pub extern "C" fn probe_bits_of(x: f32) -> u32
     ensures { λ r. ⌜ r ≡ toBits binary32 x ⌝ }
 {
-    number::bits::bits_of(x)
+    wire::bits::bits_of(x)
 }
 
 #[no_mangle]
 pub extern "C" fn probe_read_u16(s: &[u8], at: usize) -> u16
     ensures { λ r. ⌜ r ≡ readAt 2 (now (s .entry)) at ⌝ }
 {
-    number::bytes::read_u16(s, at)
+    wire::bytes::read_u16(s, at)
 }
 
 #[no_mangle]
 pub extern "C" fn probe_read_u32(s: &[u8], at: usize) -> u32
     ensures { λ r. ⌜ r ≡ readAt 4 (now (s .entry)) at ⌝ }
 {
-    number::bytes::read_u32(s, at)
+    wire::bytes::read_u32(s, at)
 }
 
 #[no_mangle]
 pub extern "C" fn probe_write_u16(out: &mut [u8], at: usize, x: u16)
     ensures { λ _. ⌜ now (out .exit) ≡ writeAt (now (out .entry)) at (bytesOf 2 x) ⌝ }
 {
-    number::bytes::write_u16(out, at, x);
+    wire::bytes::write_u16(out, at, x);
 }
 
 #[no_mangle]
 pub extern "C" fn probe_write_u32(out: &mut [u8], at: usize, x: u32)
     ensures { λ _. ⌜ now (out .exit) ≡ writeAt (now (out .entry)) at (bytesOf 4 x) ⌝ }
 {
-    number::bytes::write_u32(out, at, x);
+    wire::bytes::write_u32(out, at, x);
 }
 
 #[no_mangle]

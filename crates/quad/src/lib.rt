@@ -104,5 +104,5 @@ impl QuadMixer {
 pub fn motors_to_torque_signs(motors: [f32; 4]) -> [f32; 3]
     ensures { λ r. ⌜ r ≡ torqueOf quadRows motors ⌝ }
 {
-    rotors::torque::torque_of(motors)
+    torque::torque_of(motors)
 }

@@ -2,8 +2,8 @@
 ghost use Prim.Native.Nat.{_+_, _≤_};
 ghost use lib.ListN.{length};
 use crate::mixes;
-use number::bits::bits_of;
 use quad::QuadMixer;
+use wire::bits::bits_of;
 
 // The most words that the inputs and the answers of a kind take.
 pub const INPUTS: usize = 16;

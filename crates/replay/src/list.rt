@@ -1,15 +1,13 @@
 // The walk over the list, record by record.
-ghost use mathlib.Core.Path.{_≡_};
-ghost use mathlib.Core.Bool.{true};
-ghost use Prim.Native.Nat.{ℕ, _≤_, _<_};
-ghost use lib.ListN.{getD};
+ghost use Prim.Native.Nat.{_≤_, _<_};
 use crate::answers::ANSWERS;
 use crate::answers::INPUTS;
 use crate::answers::answer;
 use crate::show::print_difference;
-use number::bits::float_of;
-use number::bytes::read_u32;
 use quad::QuadMixer;
+use wire::bits::float_of;
+use wire::bytes::read_u32;
+use wire::words::same;
 
 // How many bytes there is room for: more than a list has.
 pub const ROOM: usize = 524288;
@@ -120,18 +118,4 @@ fn words_from(record: &[u8], from: usize) -> [u32; ANSWERS]
         i += 1;
     }
     words
-}
-
-// Whether all words agree.
-fn same(a: &[u32; ANSWERS], b: &[u32; ANSWERS]) -> bool
-    ensures { λ r. ⌜ (r ≡ true → (k : ℕ) → k < 8 → getD (now (a .entry)) k 0 ≡ getD (now (b .entry)) k 0) ⌝ }
-{
-    let mut i = 0;
-    while i < ANSWERS {
-        if a[i] != b[i] {
-            return false;
-        }
-        i += 1;
-    }
-    true
 }

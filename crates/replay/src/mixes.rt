@@ -2,9 +2,9 @@
 use crate::answers::ANSWERS;
 use crate::answers::INPUTS;
 use crate::answers::Ours;
-use number::bits::bits_of;
 use quad::QuadMixer;
 use quad::motors_to_torque_signs;
+use wire::bits::bits_of;
 
 pub fn answer(head: u32, x: &[f32; INPUTS], state: QuadMixer) -> Ours {
     match head {

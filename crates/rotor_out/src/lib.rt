@@ -48,14 +48,10 @@ fn equations(failed: usize) -> [[f32; 3]; 3]
     requires { ⌜ failed < 4 ⌝ }
     ensures { λ a. ⌜ a ≡ equations failed ⌝ }
 {
-    let h0 = (failed + 1) % 4;
-    let h1 = (failed + 2) % 4;
-    let h2 = (failed + 3) % 4;
-    [
-        [1.0, 1.0, 1.0],
-        [MIXER_X[h0][1], MIXER_X[h1][1], MIXER_X[h2][1]],
-        [MIXER_X[h0][2], MIXER_X[h1][2], MIXER_X[h2][2]],
-    ]
+    let a = MIXER_X[(failed + 1) % 4];
+    let b = MIXER_X[(failed + 2) % 4];
+    let c = MIXER_X[(failed + 3) % 4];
+    [[1.0, 1.0, 1.0], [a[1], b[1], c[1]], [a[2], b[2], c[2]]]
 }
 
 // The healthy rotors' three numbers at their places, the lost one's being 0.

@@ -1,5 +1,3 @@
-// What the quad's mixes share: the rows of its four rotors, what a torque asks of each, the extremes of four numbers, and the torque that motors give.
+// What the quad's mixes share: the rows of its four rotors, and what they make of a command before any of them fits it to the motors.
 pub mod command;
-pub mod extremes;
 pub mod rows;
-pub mod torque;

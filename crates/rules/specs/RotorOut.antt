@@ -42,7 +42,9 @@ equations f =
 -- the three numbers of the healthy rotors put at their places, "with the lost rotor's base and delta 0"
 unfoldable pub placed : ℕ → List Float → List Float
 placed f x =
-    set (set (set (0f ∷ 0f ∷ 0f ∷ 0f ∷ []) ((f + 1) % 4) (getD x 0 nan)) ((f + 2) % 4) (getD x 1 nan)) ((f + 3) % 4) (getD x 2 nan)
+    let first = set (0f ∷ 0f ∷ 0f ∷ 0f ∷ []) (getD (healthy f) 0 0) (getD x 0 nan) in
+    let second = set first (getD (healthy f) 1 0) (getD x 1 nan) in
+    set second (getD (healthy f) 2 0) (getD x 2 nan)
 
 -- "Cramer's rule [...] for (3t,0,0) as base and (0,roll,pitch) as delta"
 unfoldable pub baseWithout : ℕ → Float → List Float

@@ -4,7 +4,7 @@
 ghost use mathlib.Core.Path.{_≡_};
 ghost use Prim.Native.Nat.{_≤_};
 ghost use lib.ListN.{length};
-ghost use Rattle.number.specs.Bytes.{writeAt};
+ghost use Rattle.wire.specs.Bytes.{writeAt};
 ghost use Rattle.text.specs.Digits.{hexOf, decimalOf};
 
 // The bytes s at a place.

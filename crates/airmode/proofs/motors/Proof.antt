@@ -4,21 +4,6 @@ use Rattle.rules.specs.Airmode.{airmodeMotors}
 use Rattle.airmode.proofs.motors.Statement.{statement}
 use Rattle.airmode.proofs.motors.Tie as tie
 
-limit-requires : tie.Need-limit-requires
-limit-requires c κs = search needs
-
-limit-requires-2 : tie.Need-limit-requires-2
-limit-requires-2 c κs = search needs
-
-deltas-requires : tie.Need-deltas-requires
-deltas-requires c κs = search needs
-
-unshifted-requires : tie.Need-unshifted-requires
-unshifted-requires c κs = search needs
-
-shifted-requires : tie.Need-shifted-requires
-shifted-requires c κs = search needs
-
 returns : tie.Need-returns
 unfolding airmodeMotors
 returns c =
@@ -34,9 +19,9 @@ pub motors-spec : {M : Type 1} → statement M
 motors-spec =
     tie.close
     (tie.spec
-    limit-requires
-    limit-requires-2
-    deltas-requires
-    unshifted-requires
-    shifted-requires
+    (λ c κs. search needs)
+    (λ c κs. search needs)
+    (λ c κs. search needs)
+    (λ c κs. search needs)
+    (λ c κs. search needs)
     returns)

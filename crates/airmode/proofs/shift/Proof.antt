@@ -4,15 +4,9 @@ use Rattle.rules.specs.Airmode.{shift}
 use Rattle.airmode.proofs.shift.Statement.{statement}
 use Rattle.airmode.proofs.shift.Tie as tie
 
-pick-requires : tie.Need-pick-requires
-pick-requires c κs = search needs
-
-pick-requires-2 : tie.Need-pick-requires-2
-pick-requires-2 c κs = search needs
-
 returns : tie.Need-returns
 unfolding shift
 returns c = simp (c .pick2 .ensures, c .before .pick .ensures)
 
 pub shift-spec : {M : Type 1} → statement M
-shift-spec = tie.close (tie.spec pick-requires pick-requires-2 returns)
+shift-spec = tie.close (tie.spec (λ c κs. search needs) (λ c κs. search needs) returns)

@@ -9,42 +9,9 @@ use Rattle.rules.specs.Airmode.{shift, shifted}
 use Rattle.rules.specs.Extremes.{least, largest}
 use Rattle.binary32.specs.Arithmetic.{_+f_}
 use Rattle.number.specs.Treat.{floorClamp}
-use Rattle.rotors.proofs.Four.{four}
+use Rattle.rules.proofs.Four.{four}
 use Rattle.airmode.proofs.shifted.Statement.{statement}
 use Rattle.airmode.proofs.shifted.Tie as tie
-
-least-requires : tie.Need-least-requires
-least-requires c κs = search needs
-
-largest-requires : tie.Need-largest-requires
-largest-requires c κs = search needs
-
-shift-requires : tie.Need-shift-requires
-shift-requires c κs = search needs
-
-array-read-clamp-floor : tie.Need-array-read-clamp-floor
-array-read-clamp-floor c = search needs
-
-clamp-floor-requires : tie.Need-clamp-floor-requires
-clamp-floor-requires c κs = search needs
-
-array-read-clamp-floor-2 : tie.Need-array-read-clamp-floor-2
-array-read-clamp-floor-2 c = search needs
-
-clamp-floor-requires-2 : tie.Need-clamp-floor-requires-2
-clamp-floor-requires-2 c κs = search needs
-
-array-read-clamp-floor-3 : tie.Need-array-read-clamp-floor-3
-array-read-clamp-floor-3 c = search needs
-
-clamp-floor-requires-3 : tie.Need-clamp-floor-requires-3
-clamp-floor-requires-3 c κs = search needs
-
-array-read-clamp-floor-4 : tie.Need-array-read-clamp-floor-4
-array-read-clamp-floor-4 c = search needs
-
-clamp-floor-requires-4 : tie.Need-clamp-floor-requires-4
-clamp-floor-requires-4 c κs = search needs
 
 returns : tie.Need-returns
 unfolding shifted
@@ -67,15 +34,15 @@ pub shifted-spec : {M : Type 1} → statement M
 shifted-spec =
     tie.close
     (tie.spec
-    least-requires
-    largest-requires
-    shift-requires
-    array-read-clamp-floor
-    clamp-floor-requires
-    array-read-clamp-floor-2
-    clamp-floor-requires-2
-    array-read-clamp-floor-3
-    clamp-floor-requires-3
-    array-read-clamp-floor-4
-    clamp-floor-requires-4
+    (λ c κs. search needs)
+    (λ c κs. search needs)
+    (λ c κs. search needs)
+    (λ c. search needs)
+    (λ c κs. search needs)
+    (λ c. search needs)
+    (λ c κs. search needs)
+    (λ c. search needs)
+    (λ c κs. search needs)
+    (λ c. search needs)
+    (λ c κs. search needs)
     returns)

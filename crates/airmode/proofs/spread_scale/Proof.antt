@@ -7,12 +7,6 @@ use Rattle.rules.specs.Airmode.{spreadScale}
 use Rattle.airmode.proofs.spread_scale.Statement.{statement}
 use Rattle.airmode.proofs.spread_scale.Tie as tie
 
-pick-requires : tie.Need-pick-requires
-pick-requires c κs = search needs
-
-pick-requires-2 : tie.Need-pick-requires-2
-pick-requires-2 c κs = search needs
-
 returns : tie.Need-returns
 unfolding spreadScale
 returns c =
@@ -22,4 +16,4 @@ returns c =
     simp (c .pick2 .ensures, c .before .pick .ensures) (both (lt small range) (lt (1f -f idle) range) ((1f -f idle) /f range) 1f)
 
 pub spread-scale-spec : {M : Type 1} → statement M
-spread-scale-spec = tie.close (tie.spec pick-requires pick-requires-2 returns)
+spread-scale-spec = tie.close (tie.spec (λ c κs. search needs) (λ c κs. search needs) returns)

@@ -7,27 +7,9 @@ use lib.ListN.{length}
 use lib.Ieee.{Float}
 use Rattle.rules.specs.Airmode.{spread, spreadScale, unshifted}
 use Rattle.binary32.specs.Arithmetic.{_+f_, _*f_}
-use Rattle.rotors.proofs.Four.{four}
+use Rattle.rules.proofs.Four.{four}
 use Rattle.airmode.proofs.unshifted.Statement.{statement}
 use Rattle.airmode.proofs.unshifted.Tie as tie
-
-spread-requires : tie.Need-spread-requires
-spread-requires c κs = search needs
-
-spread-scale-requires : tie.Need-spread-scale-requires
-spread-scale-requires c κs = search needs
-
-array-read-t6 : tie.Need-array-read-t6
-array-read-t6 c = search needs
-
-array-read-t14 : tie.Need-array-read-t14
-array-read-t14 c = search needs
-
-array-read-t19 : tie.Need-array-read-t19
-array-read-t19 c = search needs
-
-array-read-t24 : tie.Need-array-read-t24
-array-read-t24 c = search needs
 
 returns : tie.Need-returns
 unfolding unshifted
@@ -44,10 +26,10 @@ pub unshifted-spec : {M : Type 1} → statement M
 unshifted-spec =
     tie.close
     (tie.spec
-    spread-requires
-    spread-scale-requires
-    array-read-t6
-    array-read-t14
-    array-read-t19
-    array-read-t24
+    (λ c κs. search needs)
+    (λ c κs. search needs)
+    (λ c. search needs)
+    (λ c. search needs)
+    (λ c. search needs)
+    (λ c. search needs)
     returns)

@@ -23,9 +23,6 @@ Inv-loop base delta floor n s₀ i₀ s i =
 abbrev μ-loop : tie.MeasureT-loop
 μ-loop base delta floor n s₀ i₀ s i = n - i
 
-shorter-requires : tie.Need-shorter-requires Inv-loop μ-loop
-shorter-requires c κs = search needs
-
 loop-holds : tie.Need-loop-holds Inv-loop μ-loop
 loop-holds c = (c .shorter .ensures, omega arith, refl)
 
@@ -40,9 +37,6 @@ mul-tighten-2 c = scaled-fits (c .before .before .loop .i) (length (now (c .befo
 
 shared-slice-read-tighten-2 : tie.Need-shared-slice-read-tighten-2 Inv-loop μ-loop
 shared-slice-read-tighten-2 c = omega arith
-
-tighten-requires : tie.Need-tighten-requires Inv-loop μ-loop
-tighten-requires c κs = search needs
 
 add-i : tie.Need-add-i Inv-loop μ-loop
 add-i c = omega arith
@@ -65,9 +59,6 @@ loop-again c =
           ∙ walk-next floor (at-loop .loop .s) base delta i (omega arith) (omega arith)
           ∙ inv .2,
     )
-
-settle-requires : tie.Need-settle-requires Inv-loop μ-loop
-settle-requires c κs = search needs
 
 returns : tie.Need-returns Inv-loop μ-loop
 unfolding fitScale
@@ -94,15 +85,15 @@ scale-spec =
     (tie.spec
     Inv-loop
     μ-loop
-    shorter-requires
+    (λ c κs. search needs)
     loop-holds
     mul-tighten
     shared-slice-read-tighten
     mul-tighten-2
     shared-slice-read-tighten-2
-    tighten-requires
+    (λ c κs. search needs)
     add-i
     loop-less
     loop-again
-    settle-requires
+    (λ c κs. search needs)
     returns)

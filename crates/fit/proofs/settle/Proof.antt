@@ -4,14 +4,8 @@ use Rattle.fit.proofs.Step.{treated-end}
 use Rattle.fit.proofs.settle.Statement.{statement}
 use Rattle.fit.proofs.settle.Tie as tie
 
-sanitise-requires : tie.Need-sanitise-requires
-sanitise-requires c κs = search needs
-
-pick-requires : tie.Need-pick-requires
-pick-requires c κs = search needs
-
 returns : tie.Need-returns
 returns c = simp (c .pick .ensures, c .before .sanitise .ensures) (treated-end (c .before .before .args .s))
 
 pub settle-spec : {M : Type 1} → statement M
-settle-spec = tie.close (tie.spec sanitise-requires pick-requires returns)
+settle-spec = tie.close (tie.spec (λ c κs. search needs) (λ c κs. search needs) returns)

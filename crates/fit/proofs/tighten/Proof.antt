@@ -4,18 +4,6 @@ use Rattle.fit.proofs.Step.{one-quotient}
 use Rattle.fit.proofs.tighten.Statement.{statement}
 use Rattle.fit.proofs.tighten.Tie as tie
 
-pick-requires : tie.Need-pick-requires
-pick-requires c κs = search needs
-
-pick-requires-2 : tie.Need-pick-requires-2
-pick-requires-2 c κs = search needs
-
-pick-requires-3 : tie.Need-pick-requires-3
-pick-requires-3 c κs = search needs
-
-pick-requires-4 : tie.Need-pick-requires-4
-pick-requires-4 c κs = search needs
-
 returns : tie.Need-returns
 returns c =
     let args = c .before .before .before .before .args in
@@ -24,4 +12,4 @@ returns c =
 
 pub tighten-spec : {M : Type 1} → statement M
 tighten-spec =
-    tie.close (tie.spec pick-requires pick-requires-2 pick-requires-3 pick-requires-4 returns)
+    tie.close (tie.spec (λ c κs. search needs) (λ c κs. search needs) (λ c κs. search needs) (λ c κs. search needs) returns)

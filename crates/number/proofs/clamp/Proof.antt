@@ -4,15 +4,9 @@ use Rattle.number.specs.Treat.{clamped}
 use Rattle.number.proofs.clamp.Statement.{statement}
 use Rattle.number.proofs.clamp.Tie as tie
 
-pick-requires : tie.Need-pick-requires
-pick-requires c κs = search needs
-
-pick-requires-2 : tie.Need-pick-requires-2
-pick-requires-2 c κs = search needs
-
 returns : tie.Need-returns
 unfolding clamped
 returns c = simp (c .pick2 .ensures, c .before .pick .ensures)
 
 pub clamp-spec : {M : Type 1} → statement M
-clamp-spec = tie.close (tie.spec pick-requires pick-requires-2 returns)
+clamp-spec = tie.close (tie.spec (λ c κs. search needs) (λ c κs. search needs) returns)

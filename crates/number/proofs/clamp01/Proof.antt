@@ -4,18 +4,9 @@ use Rattle.number.specs.Treat.{unitClamp}
 use Rattle.number.proofs.clamp01.Statement.{statement}
 use Rattle.number.proofs.clamp01.Tie as tie
 
-is-nan-requires : tie.Need-is-nan-requires
-is-nan-requires c κs = search needs
-
-clamp-requires : tie.Need-clamp-requires
-clamp-requires c κs = search needs
-
-pick-requires : tie.Need-pick-requires
-pick-requires c κs = search needs
-
 returns : tie.Need-returns
 unfolding unitClamp
 returns c = simp (c .pick .ensures, c .before .clamp .ensures, c .before .before .is-nan .ensures)
 
 pub clamp01-spec : {M : Type 1} → statement M
-clamp01-spec = tie.close (tie.spec is-nan-requires clamp-requires pick-requires returns)
+clamp01-spec = tie.close (tie.spec (λ c κs. search needs) (λ c κs. search needs) (λ c κs. search needs) returns)

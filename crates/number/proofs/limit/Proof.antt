@@ -4,15 +4,9 @@ use Rattle.number.specs.Treat.{limited}
 use Rattle.number.proofs.limit.Statement.{statement}
 use Rattle.number.proofs.limit.Tie as tie
 
-sanitise-requires : tie.Need-sanitise-requires
-sanitise-requires c κs = search needs
-
-clamp-requires : tie.Need-clamp-requires
-clamp-requires c κs = search needs
-
 returns : tie.Need-returns
 unfolding limited
 returns c = simp (c .clamp .ensures, c .before .sanitise .ensures)
 
 pub limit-spec : {M : Type 1} → statement M
-limit-spec = tie.close (tie.spec sanitise-requires clamp-requires returns)
+limit-spec = tie.close (tie.spec (λ c κs. search needs) (λ c κs. search needs) returns)

@@ -4,15 +4,9 @@ use Rattle.number.specs.Treat.{treated}
 use Rattle.number.proofs.sanitise.Statement.{statement}
 use Rattle.number.proofs.sanitise.Tie as tie
 
-is-finite-requires : tie.Need-is-finite-requires
-is-finite-requires c κs = search needs
-
-pick-requires : tie.Need-pick-requires
-pick-requires c κs = search needs
-
 returns : tie.Need-returns
 unfolding treated
 returns c = simp (c .pick .ensures, c .before .is-finite .ensures)
 
 pub sanitise-spec : {M : Type 1} → statement M
-sanitise-spec = tie.close (tie.spec is-finite-requires pick-requires returns)
+sanitise-spec = tie.close (tie.spec (λ c κs. search needs) (λ c κs. search needs) returns)

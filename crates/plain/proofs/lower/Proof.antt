@@ -4,12 +4,9 @@ use Rattle.rules.specs.Plain.{loweredBy}
 use Rattle.plain.proofs.lower.Statement.{statement}
 use Rattle.plain.proofs.lower.Tie as tie
 
-pick-requires : tie.Need-pick-requires
-pick-requires c κs = search needs
-
 returns : tie.Need-returns
 unfolding loweredBy
 returns c = simp (c .pick .ensures)
 
 pub lower-spec : {M : Type 1} → statement M
-lower-spec = tie.close (tie.spec pick-requires returns)
+lower-spec = tie.close (tie.spec (λ c κs. search needs) returns)

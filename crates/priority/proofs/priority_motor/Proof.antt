@@ -4,12 +4,9 @@ use Rattle.rules.specs.Priority.{priorityMotor}
 use Rattle.priority.proofs.priority_motor.Statement.{statement}
 use Rattle.priority.proofs.priority_motor.Tie as tie
 
-clamp-floor-requires : tie.Need-clamp-floor-requires
-clamp-floor-requires c κs = search needs
-
 returns : tie.Need-returns
 unfolding priorityMotor
 returns c = simp (c .clamp-floor .ensures)
 
 pub priority-motor-spec : {M : Type 1} → statement M
-priority-motor-spec = tie.close (tie.spec clamp-floor-requires returns)
+priority-motor-spec = tie.close (tie.spec (λ c κs. search needs) returns)

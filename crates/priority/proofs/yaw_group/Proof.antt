@@ -4,15 +4,9 @@ use Rattle.rules.specs.Priority.{yawGroup}
 use Rattle.priority.proofs.yaw_group.Statement.{statement}
 use Rattle.priority.proofs.yaw_group.Tie as tie
 
-array-read-sanitise : tie.Need-array-read-sanitise
-array-read-sanitise c = search needs
-
-sanitise-requires : tie.Need-sanitise-requires
-sanitise-requires c κs = search needs
-
 returns : tie.Need-returns
 unfolding yawGroup
 returns c = simp (c .sanitise .ensures)
 
 pub yaw-group-spec : {M : Type 1} → statement M
-yaw-group-spec = tie.close (tie.spec array-read-sanitise sanitise-requires returns)
+yaw-group-spec = tie.close (tie.spec (λ c. search needs) (λ c κs. search needs) returns)

@@ -6,30 +6,9 @@ use borrow.Author.Needs.{needs}
 use lib.ListN.{length}
 use lib.Ieee.{Float}
 use Rattle.rules.specs.Priority.{yawScale}
-use Rattle.rotors.proofs.Four.{four}
+use Rattle.rules.proofs.Four.{four}
 use Rattle.priority.proofs.yaw_scale.Statement.{statement}
 use Rattle.priority.proofs.yaw_scale.Tie as tie
-
-array-read-t10 : tie.Need-array-read-t10
-array-read-t10 c = search needs
-
-array-read-t14 : tie.Need-array-read-t14
-array-read-t14 c = search needs
-
-array-read-t18 : tie.Need-array-read-t18
-array-read-t18 c = search needs
-
-array-read-t22 : tie.Need-array-read-t22
-array-read-t22 c = search needs
-
-slice-aggregate-scale : tie.Need-slice-aggregate-scale
-slice-aggregate-scale c = search needs
-
-slice-aggregate-scale-2 : tie.Need-slice-aggregate-scale-2
-slice-aggregate-scale-2 c = search needs
-
-scale-requires : tie.Need-scale-requires
-scale-requires c κs = search needs
 
 returns : tie.Need-returns
 unfolding yawScale
@@ -43,11 +22,11 @@ pub yaw-scale-spec : {M : Type 1} → statement M
 yaw-scale-spec =
     tie.close
     (tie.spec
-    array-read-t10
-    array-read-t14
-    array-read-t18
-    array-read-t22
-    slice-aggregate-scale
-    slice-aggregate-scale-2
-    scale-requires
+    (λ c. search needs)
+    (λ c. search needs)
+    (λ c. search needs)
+    (λ c. search needs)
+    (λ c. search needs)
+    (λ c. search needs)
+    (λ c κs. search needs)
     returns)

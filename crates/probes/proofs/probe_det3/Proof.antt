@@ -3,14 +3,8 @@ use borrow.Author.Needs.{needs}
 use Rattle.probes.proofs.probe_det3.Statement.{statement}
 use Rattle.probes.proofs.probe_det3.Tie as tie
 
-matrix-requires : tie.Need-matrix-requires
-matrix-requires c κs = search needs
-
-det3-requires : tie.Need-det3-requires
-det3-requires c κs = search needs
-
 returns : tie.Need-returns
 returns c = simp (c .det3 .ensures, c .before .matrix .ensures)
 
 pub probe-det3-spec : {M : Type 1} → statement M
-probe-det3-spec = tie.close (tie.spec matrix-requires det3-requires returns)
+probe-det3-spec = tie.close (tie.spec (λ c κs. search needs) (λ c κs. search needs) returns)

@@ -3,16 +3,10 @@ use borrow.Author.Needs.{needs}
 use Rattle.probes.proofs.probe_solve3.Statement.{statement}
 use Rattle.probes.proofs.probe_solve3.Tie as tie
 
-matrix-requires : tie.Need-matrix-requires
-matrix-requires c κs = search needs
-
-solve3-requires : tie.Need-solve3-requires
-solve3-requires c κs = search needs
-
 returns : tie.Need-returns
 returns c =
     let solved = c .before in
     (simp (solved .solve3 .ensures, solved .before .matrix .ensures), simp (solved .solve3 .ensures, solved .before .matrix .ensures))
 
 pub probe-solve3-spec : {M : Type 1} → statement M
-probe-solve3-spec = tie.close (tie.spec matrix-requires solve3-requires returns)
+probe-solve3-spec = tie.close (tie.spec (λ c κs. search needs) (λ c κs. search needs) returns)

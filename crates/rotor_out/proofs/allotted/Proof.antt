@@ -4,20 +4,8 @@ use borrow.Author.Tests.{lt-ltb, le-ltb}
 use Rattle.rotor_out.proofs.allotted.Statement.{statement}
 use Rattle.rotor_out.proofs.allotted.Tie as tie
 
-none-lost-requires : tie.Need-none-lost-requires
-none-lost-requires c κs = search needs
-
 returns : tie.Need-returns
 returns c = simp (c .none-lost .ensures, le-ltb (c .before .before .args .failed) 4 (c .before .if1 .taken))
-
-base-without-requires : tie.Need-base-without-requires
-base-without-requires c κs = search needs
-
-delta-without-requires : tie.Need-delta-without-requires
-delta-without-requires c κs = search needs
-
-motors-without-requires : tie.Need-motors-without-requires
-motors-without-requires c κs = search needs
 
 returns-2 : tie.Need-returns-2
 returns-2 c =
@@ -33,9 +21,9 @@ pub allotted-spec : {M : Type 1} → statement M
 allotted-spec =
     tie.close
     (tie.spec
-    none-lost-requires
+    (λ c κs. search needs)
     returns
-    base-without-requires
-    delta-without-requires
-    motors-without-requires
+    (λ c κs. search needs)
+    (λ c κs. search needs)
+    (λ c κs. search needs)
     returns-2)

@@ -4,18 +4,9 @@ use Rattle.rules.specs.RotorOut.{baseWithout}
 use Rattle.rotor_out.proofs.base_without.Statement.{statement}
 use Rattle.rotor_out.proofs.base_without.Tie as tie
 
-equations-requires : tie.Need-equations-requires
-equations-requires c κs = search needs
-
-solve3-requires : tie.Need-solve3-requires
-solve3-requires c κs = search needs
-
-placed-requires : tie.Need-placed-requires
-placed-requires c κs = search needs
-
 returns : tie.Need-returns
 unfolding baseWithout
 returns c = simp (c .placed .ensures, c .before .before .solve3 .ensures, c .before .before .before .equations .ensures)
 
 pub base-without-spec : {M : Type 1} → statement M
-base-without-spec = tie.close (tie.spec equations-requires solve3-requires placed-requires returns)
+base-without-spec = tie.close (tie.spec (λ c κs. search needs) (λ c κs. search needs) (λ c κs. search needs) returns)

@@ -4,15 +4,9 @@ use Rattle.rules.specs.RotorOut.{tilt}
 use Rattle.rotor_out.proofs.tilt.Statement.{statement}
 use Rattle.rotor_out.proofs.tilt.Tie as tie
 
-sanitise-requires : tie.Need-sanitise-requires
-sanitise-requires c κs = search needs
-
-clamp-requires : tie.Need-clamp-requires
-clamp-requires c κs = search needs
-
 returns : tie.Need-returns
 unfolding tilt
 returns c = simp (c .clamp .ensures, c .before .sanitise .ensures)
 
 pub tilt-spec : {M : Type 1} → statement M
-tilt-spec = tie.close (tie.spec sanitise-requires clamp-requires returns)
+tilt-spec = tie.close (tie.spec (λ c κs. search needs) (λ c κs. search needs) returns)

@@ -4,12 +4,6 @@ use Rattle.solve.specs.Solve.{singular}
 use Rattle.solve.proofs.is_singular.Statement.{statement}
 use Rattle.solve.proofs.is_singular.Tie as tie
 
-is-finite-requires : tie.Need-is-finite-requires
-is-finite-requires c κs = search needs
-
-is-small-requires : tie.Need-is-small-requires
-is-small-requires c κs = search needs
-
 returns : tie.Need-returns
 unfolding singular
 returns c = simp (← c .before .is-finite .ensures, c .if1 .taken)
@@ -19,4 +13,4 @@ unfolding singular
 returns-2 c = simp (← c .before .before .is-finite .ensures, c .before .if1 .left, c .is-small .ensures)
 
 pub is-singular-spec : {M : Type 1} → statement M
-is-singular-spec = tie.close (tie.spec is-finite-requires is-small-requires returns returns-2)
+is-singular-spec = tie.close (tie.spec (λ c κs. search needs) (λ c κs. search needs) returns returns-2)

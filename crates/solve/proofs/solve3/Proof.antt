@@ -5,24 +5,9 @@ use Rattle.solve.specs.Solve.{solution}
 use Rattle.solve.proofs.solve3.Statement.{statement}
 use Rattle.solve.proofs.solve3.Tie as tie
 
-det3-requires : tie.Need-det3-requires
-det3-requires c κs = search needs
-
-is-singular-requires : tie.Need-is-singular-requires
-is-singular-requires c κs = search needs
-
 returns : tie.Need-returns
 unfolding solution
 returns c = simp (← c .before .before .det3 .ensures, ← c .before .is-singular .ensures, c .if1 .taken)
-
-unknown-requires : tie.Need-unknown-requires
-unknown-requires c κs = search needs
-
-unknown-requires-2 : tie.Need-unknown-requires-2
-unknown-requires-2 c κs = search needs
-
-unknown-requires-3 : tie.Need-unknown-requires-3
-unknown-requires-3 c κs = search needs
 
 returns-2 : tie.Need-returns-2
 unfolding solution
@@ -40,10 +25,10 @@ pub solve3-spec : {M : Type 1} → statement M
 solve3-spec =
     tie.close
     (tie.spec
-    det3-requires
-    is-singular-requires
+    (λ c κs. search needs)
+    (λ c κs. search needs)
     returns
-    unknown-requires
-    unknown-requires-2
-    unknown-requires-3
+    (λ c κs. search needs)
+    (λ c κs. search needs)
+    (λ c κs. search needs)
     returns-2)

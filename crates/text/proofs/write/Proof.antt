@@ -7,34 +7,16 @@ use lib.ListN.{length, take, drop, length-drop, drop-of-length-le}
 use lib.Seq.{take-all, take-length, drop-drop}
 use borrow.Author.Needs.{needs}
 use borrow.Rule.Slice.PartMut.{midOf, postOf, putMid, post-is}
-use Rattle.number.specs.Bytes.{writeAt}
-use Rattle.number.proofs.LittleEndian.{writeAt-short, writeAt-fits}
+use Rattle.wire.specs.Bytes.{writeAt}
+use Rattle.wire.proofs.LittleEndian.{writeAt-short, writeAt-fits}
 use Rattle.text.proofs.write.Statement.{statement}
 use Rattle.text.proofs.write.Tie as tie
 
 returns : tie.Need-returns
 returns c = sym (writeAt-short _ _ _ (omega arith))
 
-sub-if2 : tie.Need-sub-if2
-sub-if2 c = search needs
-
 returns-2 : tie.Need-returns-2
 returns-2 c = sym (writeAt-short _ _ _ (omega arith))
-
-sub-copy : tie.Need-sub-copy
-sub-copy c = search needs
-
-part-copy-start : tie.Need-part-copy-start
-part-copy-start c = search needs
-
-part-copy-end : tie.Need-part-copy-end
-part-copy-end c = search needs
-
-copy-requires : tie.Need-copy-requires
-copy-requires c κs = search needs
-
-same-length : tie.Need-same-length
-same-length c = search needs
 
 -- the part from `at` on put back with s at its start
 put-back : (out s : List ℕ) (at : ℕ) → at + length s ≤ length out
@@ -56,11 +38,11 @@ write-spec =
     tie.close
     (tie.spec
     returns
-    sub-if2
+    (λ c. search needs)
     returns-2
-    sub-copy
-    part-copy-start
-    part-copy-end
-    copy-requires
-    same-length
+    (λ c. search needs)
+    (λ c. search needs)
+    (λ c. search needs)
+    (λ c κs. search needs)
+    (λ c. search needs)
     returns-3)

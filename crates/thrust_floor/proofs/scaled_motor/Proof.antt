@@ -4,12 +4,9 @@ use Rattle.rules.specs.ThrustFloor.{scaledMotor}
 use Rattle.thrust_floor.proofs.scaled_motor.Statement.{statement}
 use Rattle.thrust_floor.proofs.scaled_motor.Tie as tie
 
-clamp-floor-requires : tie.Need-clamp-floor-requires
-clamp-floor-requires c κs = search needs
-
 returns : tie.Need-returns
 unfolding scaledMotor
 returns c = simp (c .clamp-floor .ensures)
 
 pub scaled-motor-spec : {M : Type 1} → statement M
-scaled-motor-spec = tie.close (tie.spec clamp-floor-requires returns)
+scaled-motor-spec = tie.close (tie.spec (λ c κs. search needs) returns)

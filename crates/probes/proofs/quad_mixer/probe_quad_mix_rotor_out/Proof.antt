@@ -3,17 +3,8 @@ use borrow.Author.Needs.{needs}
 use Rattle.probes.proofs.quad_mixer.probe_quad_mix_rotor_out.Statement.{statement}
 use Rattle.probes.proofs.quad_mixer.probe_quad_mix_rotor_out.Tie as tie
 
-mixer-requires : tie.Need-mixer-requires
-mixer-requires c κs = search needs
-
-mix-rotor-out-requires : tie.Need-mix-rotor-out-requires
-mix-rotor-out-requires c κs = search needs
-
-five-requires : tie.Need-five-requires
-five-requires c κs = search needs
-
 returns : tie.Need-returns
 returns c = simp (c .five .ensures, c .before .mix-rotor-out .ensures .is)
 
 pub probe-quad-mix-rotor-out-spec : {M : Type 1} → statement M
-probe-quad-mix-rotor-out-spec = tie.close (tie.spec mixer-requires mix-rotor-out-requires five-requires returns)
+probe-quad-mix-rotor-out-spec = tie.close (tie.spec (λ c κs. search needs) (λ c κs. search needs) (λ c κs. search needs) returns)

@@ -3,17 +3,8 @@ use borrow.Author.Needs.{needs}
 use Rattle.probes.proofs.quad_mixer.probe_quad_mix_thrust_floor.Statement.{statement}
 use Rattle.probes.proofs.quad_mixer.probe_quad_mix_thrust_floor.Tie as tie
 
-mixer-requires : tie.Need-mixer-requires
-mixer-requires c κs = search needs
-
-mix-thrust-floor-requires : tie.Need-mix-thrust-floor-requires
-mix-thrust-floor-requires c κs = search needs
-
-five-requires : tie.Need-five-requires
-five-requires c κs = search needs
-
 returns : tie.Need-returns
 returns c = simp (c .five .ensures, c .before .mix-thrust-floor .ensures .is)
 
 pub probe-quad-mix-thrust-floor-spec : {M : Type 1} → statement M
-probe-quad-mix-thrust-floor-spec = tie.close (tie.spec mixer-requires mix-thrust-floor-requires five-requires returns)
+probe-quad-mix-thrust-floor-spec = tie.close (tie.spec (λ c κs. search needs) (λ c κs. search needs) (λ c κs. search needs) returns)

@@ -3,14 +3,8 @@ use borrow.Author.Needs.{needs}
 use Rattle.probes.proofs.quad_mixer.probe_quad_readers.Statement.{statement}
 use Rattle.probes.proofs.quad_mixer.probe_quad_readers.Tie as tie
 
-mixer-requires : tie.Need-mixer-requires
-mixer-requires c κs = search needs
-
-five-requires : tie.Need-five-requires
-five-requires c κs = search needs
-
 returns : tie.Need-returns
 returns c = simp (c .five .ensures, c .before .mixer .ensures)
 
 pub probe-quad-readers-spec : {M : Type 1} → statement M
-probe-quad-readers-spec = tie.close (tie.spec mixer-requires five-requires returns)
+probe-quad-readers-spec = tie.close (tie.spec (λ c κs. search needs) (λ c κs. search needs) returns)

@@ -5,12 +5,6 @@ use Rattle.quad.proofs.Mixed.{mixed}
 use Rattle.quad.proofs.QuadMixer.mix_rotor_out.Statement.{statement}
 use Rattle.quad.proofs.QuadMixer.mix_rotor_out.Tie as tie
 
-motors-requires : tie.Need-motors-requires
-motors-requires c κs = search needs
-
-state-requires : tie.Need-state-requires
-state-requires c κs = search needs
-
 returns : tie.Need-returns
 returns c =
     let start = c .before .before in
@@ -21,4 +15,4 @@ returns c =
     )) (rotor-out-keeps (args .failed) (args .torque-body) (args .thrust) (args .floor) (rw (start .good .1 .1 .1 .1 .0 .1) tt))
 
 pub mix-rotor-out-spec : {M : Type 1} → statement M
-mix-rotor-out-spec = tie.close (tie.spec motors-requires state-requires returns)
+mix-rotor-out-spec = tie.close (tie.spec (λ c κs. search needs) (λ c κs. search needs) returns)

@@ -6,12 +6,6 @@ use Rattle.quad.proofs.Mixed.{mixed}
 use Rattle.quad.proofs.QuadMixer.mix_thrust_floor.Statement.{statement}
 use Rattle.quad.proofs.QuadMixer.mix_thrust_floor.Tie as tie
 
-motors-requires : tie.Need-motors-requires
-motors-requires c κs = search needs
-
-state-requires : tie.Need-state-requires
-state-requires c κs = search needs
-
 returns : tie.Need-returns
 returns c =
     let start = c .before .before .before in
@@ -23,4 +17,4 @@ returns c =
     )) (thrust-floor-keeps quadRows (args .torque-body) (args .thrust) (args .floor) (rw (start .good .1 .1 .0 .1) tt) (rw (start .good .1 .1 .1 .0 .1) tt))
 
 pub mix-thrust-floor-spec : {M : Type 1} → statement M
-mix-thrust-floor-spec = tie.close (tie.spec motors-requires state-requires returns)
+mix-thrust-floor-spec = tie.close (tie.spec (λ c κs. search needs) (λ c κs. search needs) returns)

@@ -4,12 +4,9 @@ use Rattle.rules.specs.Command.{lifted}
 use Rattle.rotors.proofs.command.lift.Statement.{statement}
 use Rattle.rotors.proofs.command.lift.Tie as tie
 
-pick-requires : tie.Need-pick-requires
-pick-requires c κs = search needs
-
 returns : tie.Need-returns
 unfolding lifted
 returns c = simp (c .pick .ensures)
 
 pub lift-spec : {M : Type 1} → statement M
-lift-spec = tie.close (tie.spec pick-requires returns)
+lift-spec = tie.close (tie.spec (λ c κs. search needs) returns)
