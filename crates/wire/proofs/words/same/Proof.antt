@@ -1,35 +1,43 @@
 -- `wire::words::same` meets its contract. The loop's invariant: the words passed agree. Assumes nothing.
-use Prim.Native.Nat.{ℕ, _≤_, _<_, _-_}
-use mathlib.Core.Path.{_≡_, sym, subst}
-use lib.Dec.{T}
-use lib.ListN.{getD}
+use Prim.Native.Nat.{ℕ, _≤_, _-_}
+use mathlib.Core.Path.{_≡_, refl, sym, ap, _∙_}
+use mathlib.Core.Bool.{true}
 use native.Mathlib.Omega.{arith}
 use borrow.Author.Needs.{needs}
-use borrow.Author.Count.{below-none, below-more}
+use Rattle.wire.specs.Words.{agree}
+use Rattle.wire.proofs.Agree.{agree-more, agree-differs}
 use Rattle.wire.proofs.words.same.Statement.{statement}
 use Rattle.wire.proofs.words.same.Tie as tie
 
 abbrev Inv-loop : tie.InvT-loop
-Inv-loop a b i₀ i = (i ≤ 8) × ((k : ℕ) → k < i → getD a k 0 ≡ getD b k 0)
+Inv-loop a b i₀ i = (i ≤ 8) × (agree i a b ≡ true)
 
 abbrev μ-loop : tie.MeasureT-loop
 μ-loop a b i₀ i = 8 - i
 
 loop-holds : tie.Need-loop-holds Inv-loop μ-loop
-loop-holds c = (omega arith, below-none _)
+unfolding agree
+loop-holds c = (omega arith, refl)
 
 returns : tie.Need-returns Inv-loop μ-loop
-returns c = λ e. absurd (subst T (sym e) tt)
+returns c =
+    let at-loop = c .before .before .before .before in
+    let args = at-loop .before .args in
+    sym (agree-differs (args .a .now) (args .b .now) (at-loop .loop .i) 8 (omega arith) (c .if1 .taken))
 
 loop-again : tie.Need-loop-again Inv-loop μ-loop
 loop-again c =
     let at-loop = c .before .before .before .before in
     let a = at-loop .before .args .a .now in
     let b = at-loop .before .args .b .now in
-    (omega arith, below-more (λ k. getD a k 0 ≡ getD b k 0) (at-loop .loop .i) (at-loop .loop .inv .1) (c .if1 .left))
+    (omega arith, agree-more a b (at-loop .loop .i) (at-loop .loop .inv .1) (c .if1 .left))
 
 returns-2 : tie.Need-returns-2 Inv-loop μ-loop
-returns-2 c = λ _ k l. c .before .loop .inv .1 k (omega arith)
+returns-2 c =
+    let at-loop = c .before in
+    let args = at-loop .before .args in
+    let end : at-loop .loop .i ≡ 8 = omega arith in
+    sym (ap (λ (k : ℕ). agree k (args .a .now) (args .b .now)) (sym end) ∙ at-loop .loop .inv .1)
 
 pub same-spec : {M : Type 1} → statement M
 same-spec =
