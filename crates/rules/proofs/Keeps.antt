@@ -18,7 +18,7 @@ use Rattle.rules.proofs.Ordered.{thrust-floor-ordered}
 use Rattle.rules.proofs.ThrustFloorFitting.{thrust-floor-fitting}
 use Rattle.rules.proofs.PriorityFitting.{priority-fitting}
 use Rattle.rules.proofs.AirmodeFitting.{airmode-fitting}
-use Rattle.rules.proofs.Plain.{plain-no-nan, plain-overflowed, plain-to-one}
+use Rattle.rules.proofs.Plain.{plain-no-nan, plain-overflowed, plain-attained, plain-to-one}
 
 -- the plain mix, of the quad; the torque's numbers are f32s, and so is the thrust
 pub plain-keeps : (torque : List Float) (thrust : Float) → ((k : ℕ) → T (fits binary32 (getD torque k nan))) → T (fits binary32 thrust)
@@ -27,6 +27,7 @@ plain-keeps torque thrust fs ft = record {
   unit = plain-unit quadRows torque thrust;
   noNan = plain-no-nan torque thrust fs ft;
   overflowed = plain-overflowed torque thrust fs ft;
+  attained = plain-attained torque thrust;
   toOne = plain-to-one torque thrust;
 }
 

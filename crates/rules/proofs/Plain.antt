@@ -20,10 +20,10 @@ use Rattle.rules.specs.Rows.{Row, thrustOf, rollOf, pitchOf, yawOf, -1f,
 use Rattle.rules.specs.Command.{roll, pitch, yaw}
 use Rattle.rules.specs.Extremes.{largest}
 use Rattle.rules.specs.Plain.{rawSum, rawSums, loweredBy, lowered, plainMotors}
-use Rattle.rules.specs.Promises.{Each, wholeEnd}
+use Rattle.rules.specs.Promises.{Each, OneOf, wholeEnd}
 use Rattle.rules.proofs.Lists.{each-mapped, each-map, map-at, map-fits, number-place}
 use Rattle.rules.proofs.Clamp.{treated-finite}
-use Rattle.rules.proofs.Extremes.{NoNan, largest-infinite}
+use Rattle.rules.proofs.Extremes.{largest-is, NoNan, largest-infinite}
 
 -- ---- a factor of a row, 1 or -1, keeps a finite number finite
 
@@ -131,3 +131,12 @@ pub plain-to-one : (torque : List Float) (thrust : Float)
     → (i : ℕ) → getD (rawSums quadRows torque thrust) i nan ≡ largest (rawSums quadRows torque thrust) → getD (plainMotors quadRows torque thrust) i nan ≡ 1f
 unfolding plainMotors
 plain-to-one torque thrust = lowered-to-one (rawSums quadRows torque thrust) (sums-fit quadRows torque thrust)
+
+-- the largest raw sum is that of some motor
+pub plain-attained : (torque : List Float) (thrust : Float) → OneOf (rawSums quadRows torque thrust) (largest (rawSums quadRows torque thrust))
+unfolding rawSums quadRows
+plain-attained torque thrust =
+    largest-is (OneOf (rawSums quadRows torque thrust)) _ _ (
+      record { place = 0; there = refl },
+      (record { place = 1; there = refl }, (record { place = 2; there = refl }, (record { place = 3; there = refl }, tt))),
+    )

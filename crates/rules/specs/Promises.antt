@@ -81,6 +81,11 @@ pub record RotorOutKeeps (failed : ℕ) (floor : Float) (motors : List Float) : 
   pub healthy : (i : ℕ) → i < 4 → (i ≡ failed → ⊥) → Between (limited floor) 1f (getD motors i nan)
   pub unit : InUnit motors
 
+-- x is one of xs
+pub record OneOf (xs : List Float) (x : Float) : Type 0 where
+  pub place : ℕ
+  pub there : getD xs place nan ≡ x
+
 -- 2 ^ 24
 abbrev pub wholeEnd : Float
 wholeEnd = ofBits binary32 0x4b80_0000
@@ -92,7 +97,8 @@ pub record PlainKeeps (torque : List Float) (thrust : Float) (motors : List Floa
   pub noNan : Each (λ x. T (not (isNan x))) (rawSums quadRows torque thrust)
   -- "One raw +infinity makes all four 0."
   pub overflowed : (i : ℕ) → getD (rawSums quadRows torque thrust) i nan ≡ inf false → Each (λ m. m ≡ 0f) motors
-  -- "A finite largest over 1 and up to 2^24 ends exactly at 1."
+  -- "A finite largest over 1 and up to 2^24 ends exactly at 1." The largest is one of the four, so some motor does.
+  pub attained : OneOf (rawSums quadRows torque thrust) (largest (rawSums quadRows torque thrust))
   pub toOne : lt 1f (largest (rawSums quadRows torque thrust)) ≡ true
       → le (largest (rawSums quadRows torque thrust)) wholeEnd ≡ true
       → (i : ℕ)

@@ -23,7 +23,7 @@ pub struct Scaled {
 
 // The torque is scaled down, all of it alike, so that each motor stays in floor..1 and the thrust is kept.
 pub fn motors(torque_body: [f32; 3], thrust: f32, floor: f32) -> Scaled
-    ensures { λ r. ⌜ (r .motors ≡ thrustFloorMotors quadRows «torque_body» thrust floor) × (r .scale ≡ thrustFloorScale quadRows «torque_body» thrust floor) ⌝ }
+    ensures { λ r. ⌜ r ≡ record { motors = thrustFloorMotors quadRows «torque_body» thrust floor; scale = thrustFloorScale quadRows «torque_body» thrust floor } ⌝ }
 {
     let low = limit(floor);
     let base = lift(limit(thrust), low);

@@ -11,25 +11,17 @@ unfolding quadRows deltas oneScale scaledMotors thrustFloorScale thrustFloorMoto
 returns c =
     let at-scale = c .before .before .before .before in
     let at-deltas = at-scale .before .before .before in
-    let at-lift = at-deltas .before in (
-      simp (
-        c .scaled-motor4 .ensures,
-        c .before .scaled-motor3 .ensures,
-        c .before .before .scaled-motor2 .ensures,
-        c .before .before .before .scaled-motor .ensures,
-        at-scale .scale .ensures .is,
-        at-deltas .deltas .ensures,
-        at-lift .lift .ensures,
-        at-lift .before .limit2 .ensures,
-        at-lift .before .before .limit .ensures,
-      ),
-      simp (
-        at-scale .scale .ensures .is,
-        at-deltas .deltas .ensures,
-        at-lift .lift .ensures,
-        at-lift .before .limit2 .ensures,
-        at-lift .before .before .limit .ensures,
-      ),
+    let at-lift = at-deltas .before in
+    simp (
+      c .scaled-motor4 .ensures,
+      c .before .scaled-motor3 .ensures,
+      c .before .before .scaled-motor2 .ensures,
+      c .before .before .before .scaled-motor .ensures,
+      at-scale .scale .ensures .is,
+      at-deltas .deltas .ensures,
+      at-lift .lift .ensures,
+      at-lift .before .limit2 .ensures,
+      at-lift .before .before .limit .ensures,
     )
 
 pub motors-spec : {M : Type 1} → statement M

@@ -10,10 +10,8 @@ returns : tie.Need-returns
 returns c =
     let start = c .before .before in
     let args = start .args in
-    mixed (simp (
-      c .state .ensures,
-      c .before .motors .ensures,
-    )) (plain-keeps (args .torque-body) (args .thrust) (array-held 3 (args .torque-body) _ (start .good .1 .0)) (rw (start .good .1 .1 .0 .1) tt))
+    mixed (simp (c .state .ensures, c .before .motors .ensures))
+    (plain-keeps (args .torque-body) (args .thrust) (array-held 3 (args .torque-body) _ (start .good .1 .0)) (rw (start .good .1 .1 .0 .1) tt))
 
 pub mix-spec : {M : Type 1} → statement M
 mix-spec = tie.close (tie.spec (λ c κs. search needs) (λ c κs. search needs) returns)

@@ -10,10 +10,8 @@ returns : tie.Need-returns
 returns c =
     let start = c .before .before in
     let args = start .args in
-    mixed (simp (
-      c .state .ensures,
-      c .before .motors .ensures,
-    )) (airmode-keeps quadRows (args .torque-body) (args .thrust) (args .idle) (rw (start .good .1 .1 .0 .1) tt) (rw (start .good .1 .1 .1 .0 .1) tt))
+    mixed (simp (c .state .ensures, c .before .motors .ensures))
+    (airmode-keeps quadRows (args .torque-body) (args .thrust) (args .idle) (rw (start .good .1 .1 .0 .1) tt) (rw (start .good .1 .1 .1 .0 .1) tt))
 
 pub mix-airmode-spec : {M : Type 1} → statement M
 mix-airmode-spec = tie.close (tie.spec (λ c κs. search needs) (λ c κs. search needs) returns)

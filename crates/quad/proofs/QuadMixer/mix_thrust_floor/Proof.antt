@@ -10,11 +10,8 @@ returns : tie.Need-returns
 returns c =
     let start = c .before .before .before in
     let args = start .args in
-    mixed (simp (
-      c .state .ensures,
-      c .before .before .motors .ensures .0,
-      c .before .before .motors .ensures .1,
-    )) (thrust-floor-keeps quadRows (args .torque-body) (args .thrust) (args .floor) (rw (start .good .1 .1 .0 .1) tt) (rw (start .good .1 .1 .1 .0 .1) tt))
+    mixed (simp (c .state .ensures, c .before .before .motors .ensures))
+    (thrust-floor-keeps quadRows (args .torque-body) (args .thrust) (args .floor) (rw (start .good .1 .1 .0 .1) tt) (rw (start .good .1 .1 .1 .0 .1) tt))
 
 pub mix-thrust-floor-spec : {M : Type 1} → statement M
 mix-thrust-floor-spec = tie.close (tie.spec (λ c κs. search needs) (λ c κs. search needs) returns)
