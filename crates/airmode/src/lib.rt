@@ -3,6 +3,7 @@
 // tests there that never fail (a treated spread is finite, and so is the quotient by a spread over SMALL).
 use extremes::largest;
 use extremes::least;
+use number::SMALL;
 use number::clamp_floor;
 use number::limit;
 use number::pick;
@@ -11,8 +12,6 @@ use rotors::command::deltas;
 ghost use mathlib.Core.Path.{_≡_};
 ghost use Rattle.rules.specs.Rows.{quadRows};
 ghost use Rattle.rules.specs.Airmode.{spread, spreadScale, unshifted, shift, shifted, airmodeMotors};
-
-const SMALL: f32 = 1.0e-6;
 
 // How far the deltas lie apart. Treated: an overflow counts as none.
 fn spread(d: [f32; 4]) -> f32

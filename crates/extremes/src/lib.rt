@@ -1,4 +1,5 @@
-// The largest and the least of four numbers.
+// The largest and the least of four numbers. Follows the loops that relay-mix-quad's `mix` and `mix_airmode` have for them (Apache-2.0, see NOTICE); changed: written in
+// Rattle with contracts, as functions of their own, the loops written out.
 use number::pick;
 ghost use mathlib.Core.Path.{_≡_};
 ghost use Rattle.rules.specs.Extremes.{larger, smaller, largest, least};

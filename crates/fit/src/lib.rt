@@ -3,10 +3,8 @@
 ghost use mathlib.Core.Path.{_≡_};
 ghost use Prim.Native.Nat.{min};
 ghost use Rattle.fit.specs.Fit.{tightened, settled, Scaled};
+use number::SMALL;
 use number::pick;
-
-// A delta within this of zero, ends included, puts no limit on the scale.
-const SMALL: f32 = 1.0e-6;
 
 // The scale held, after the motor with base b and delta d. The room that the delta uses up is that to the ceiling or that to the floor; dividing it by
 // the delta's size is one quotient for both signs.

@@ -8,6 +8,9 @@ ghost use lib.Ieee.{isNan};
 ghost use lib.Ieee.Scale.{finite};
 ghost use Rattle.number.specs.Treat.{treated, clamped, limited, floorClamp, unitClamp};
 
+// Document 01's small, a threshold of three rules: the fit scale's for a delta, airmode's for a spread, and the solver's for a determinant.
+pub const SMALL: f32 = 1.0e-6;
+
 // Whether x is neither a NaN nor an infinity: only then is x - x zero. This is the one test for it; nothing that calls it looks into it.
 pub fn is_finite(x: f32) -> bool
     ensures { λ r. ⌜ r ≡ finite x ⌝ }

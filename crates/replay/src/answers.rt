@@ -4,11 +4,12 @@ ghost use lib.ListN.{length};
 use crate::mixes;
 use quad::QuadMixer;
 use wire::bits::bits_of;
+use wire::words::WORDS;
 
-// The most words that the inputs and the answers of a kind take.
+// The most words that the inputs of a kind take, and its answers, which are compared as a run of words.
 pub const INPUTS: usize = 16;
 
-pub const ANSWERS: usize = 8;
+pub const ANSWERS: usize = WORDS;
 
 // What we answer, with zeros after the last word, and the quad's state after the record. No kind has the head where `known` is false.
 pub struct Ours {

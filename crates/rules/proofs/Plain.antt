@@ -20,7 +20,7 @@ use Rattle.rules.specs.Rows.{Row, thrustOf, rollOf, pitchOf, yawOf, -1f,
 use Rattle.rules.specs.Command.{roll, pitch, yaw}
 use Rattle.rules.specs.Extremes.{largest}
 use Rattle.rules.specs.Plain.{rawSum, rawSums, loweredBy, lowered, plainMotors}
-use Rattle.rules.specs.Promises.{Each, OneOf, wholeEnd}
+use Rattle.rules.specs.Promises.{Each, OneOf, 2^24}
 use Rattle.rules.proofs.Lists.{each-mapped, each-map, map-at, map-fits, number-place}
 use Rattle.rules.proofs.Clamp.{treated-finite}
 use Rattle.rules.proofs.Extremes.{largest-is, NoNan, largest-infinite}
@@ -93,17 +93,17 @@ plain-overflowed torque thrust hs ht = lowered-overflowed (rawSums quadRows torq
 
 -- ---- a largest over 1 and up to 2 ^ 24 ends at 1: 1 is taken from it exactly
 
-end-is : wholeEnd ≡ endOf binary32
+end-is : 2^24 ≡ endOf binary32
 unfolding ofBits
 end-is = refl
 
-over-one-up-to-end : {most : Float} → lt 1f most ≡ true → le most wholeEnd ≡ true → Between unit (endOf binary32) most
+over-one-up-to-end : {most : Float} → lt 1f most ≡ true → le most 2^24 ≡ true → Between unit (endOf binary32) most
 over-one-up-to-end {most} l h = record {
   from = ap (λ (u : Float). le u most) (sym one-is-unit) ∙ less-le 1f most l;
   to = ap (le most) (sym end-is) ∙ h;
 }
 
-largest-lowered : (most : Float) → T (fits binary32 most) → lt 1f most ≡ true → le most wholeEnd ≡ true → loweredBy most most ≡ 1f
+largest-lowered : (most : Float) → T (fits binary32 most) → lt 1f most ≡ true → le most 2^24 ≡ true → loweredBy most most ≡ 1f
 unfolding loweredBy
 largest-lowered most held l h = rw (l, one-is-unit) (back-to-one binary32 held (over-one-up-to-end l h))
 
@@ -112,13 +112,13 @@ unfolding floorClamp clamped lt ofBits
 one-kept = refl
 
 -- of any raw sums that binary32 holds: each that is the largest
-pub lowered-to-one : (xs : List Float) → ((k : ℕ) → T (fits binary32 (getD xs k nan))) → lt 1f (largest xs) ≡ true → le (largest xs) wholeEnd ≡ true
+pub lowered-to-one : (xs : List Float) → ((k : ℕ) → T (fits binary32 (getD xs k nan))) → lt 1f (largest xs) ≡ true → le (largest xs) 2^24 ≡ true
     → (i : ℕ) → getD xs i nan ≡ largest xs → getD (map (λ x. floorClamp x 0f) (lowered xs)) i nan ≡ 1f
 unfolding lowered
 lowered-to-one xs hs l h i e =
     let most = largest xs in
     let held : T (fits binary32 most) = subst (λ (x : Float). T (fits binary32 x)) e (hs i) in
-    let place = number-place xs i (subst NoNan (sym e) (le-number most wholeEnd h)) in
+    let place = number-place xs i (subst NoNan (sym e) (le-number most 2^24 h)) in
     rw (map-map, map-at (λ x. floorClamp (loweredBy most x) 0f) nan nan xs i place, e, largest-lowered most held l h) one-kept
 
 -- a raw sum is one of binary32's numbers, whatever is summed
@@ -127,7 +127,7 @@ unfolding rawSums rawSum
 sums-fit rows torque thrust = map-fits _ (λ row. add-fits binary32 _ _) rows
 
 pub plain-to-one : (torque : List Float) (thrust : Float)
-    → lt 1f (largest (rawSums quadRows torque thrust)) ≡ true → le (largest (rawSums quadRows torque thrust)) wholeEnd ≡ true
+    → lt 1f (largest (rawSums quadRows torque thrust)) ≡ true → le (largest (rawSums quadRows torque thrust)) 2^24 ≡ true
     → (i : ℕ) → getD (rawSums quadRows torque thrust) i nan ≡ largest (rawSums quadRows torque thrust) → getD (plainMotors quadRows torque thrust) i nan ≡ 1f
 unfolding plainMotors
 plain-to-one torque thrust = lowered-to-one (rawSums quadRows torque thrust) (sums-fit quadRows torque thrust)

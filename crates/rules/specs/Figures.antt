@@ -10,6 +10,7 @@ use Rattle.rules.specs.ThrustFloor.{thrustFloorScale, thrustFloorMotors}
 use Rattle.rules.specs.Priority.{priorityMotors}
 use Rattle.rules.specs.Airmode.{airmodeMotors}
 use Rattle.rules.specs.RotorOut.{rotorOutMotors}
+use Rattle.rules.specs.Promises.{2^24}
 
 -- a line of the table: the figure's number, the rule's answer to its command, and the paper's
 pub record Figure : Type 0 where
@@ -36,9 +37,6 @@ abbrev 5/8 : Float
 
 abbrev 3/4 : Float
 3/4 = ofBits binary32 0x3f40_0000
-
-abbrev 2^24 : Float
-2^24 = ofBits binary32 0x4b80_0000
 
 abbrev 2^24+4 : Float
 2^24+4 = ofBits binary32 0x4b80_0002

@@ -86,9 +86,8 @@ pub record OneOf (xs : List Float) (x : Float) : Type 0 where
   pub place : ℕ
   pub there : getD xs place nan ≡ x
 
--- 2 ^ 24
-abbrev pub wholeEnd : Float
-wholeEnd = ofBits binary32 0x4b80_0000
+abbrev pub 2^24 : Float
+2^24 = ofBits binary32 0x4b80_0000
 
 -- plain, on the quad: document 01's claims in 'The five quad mixes', 1
 pub record PlainKeeps (torque : List Float) (thrust : Float) (motors : List Float) : Type 0 where
@@ -100,7 +99,7 @@ pub record PlainKeeps (torque : List Float) (thrust : Float) (motors : List Floa
   -- "A finite largest over 1 and up to 2^24 ends exactly at 1." The largest is one of the four, so some motor does.
   pub attained : OneOf (rawSums quadRows torque thrust) (largest (rawSums quadRows torque thrust))
   pub toOne : lt 1f (largest (rawSums quadRows torque thrust)) ≡ true
-      → le (largest (rawSums quadRows torque thrust)) wholeEnd ≡ true
+      → le (largest (rawSums quadRows torque thrust)) 2^24 ≡ true
       → (i : ℕ)
       → getD (rawSums quadRows torque thrust) i nan ≡ largest (rawSums quadRows torque thrust)
       → getD motors i nan ≡ 1f

@@ -1,5 +1,6 @@
 // Follows relay-mix-quad's det3 and solve3 (Apache-2.0, see NOTICE); changed: written in Rattle, with contracts; the Option is a struct with a flag; the
 // loops over three columns and three rows are written out; the size of the determinant is compared from both sides, with no absolute value made.
+use number::SMALL;
 use number::is_finite;
 ghost use mathlib.Core.Path.{_≡_};
 ghost use Prim.Native.Nat.{_<_};
@@ -12,8 +13,6 @@ pub struct Solution {
     pub solved: bool,
     pub x: [f32; 3],
 }
-
-const SMALL: f32 = 1.0e-6;
 
 // Determinant of a 3x3 matrix given by its rows.
 pub fn det3(a: [[f32; 3]; 3]) -> f32
