@@ -1,5 +1,5 @@
 /// Appended by compare/run to its copy of relay-mix-quad, and no part of that crate: the private
-/// functions that are compared, passed on as they are, and a state of any bits.
+/// functions that are compared, passed on as they are, a state of any bits, and a frame's rows.
 pub mod passed_on {
     #[inline]
     pub fn mixer(last_motors: [f32; 4], last_torque_scale: f32) -> super::QuadMixer {
@@ -42,5 +42,10 @@ pub mod passed_on {
     #[inline]
     pub fn scale_to_fit(base: &[f32; 4], delta: &[f32; 4], floor: f32) -> f32 {
         super::scale_to_fit(base, delta, floor)
+    }
+
+    #[inline]
+    pub fn frame_rows(frame: &super::MixerN) -> [[f32; 4]; super::MAX_ROTORS] {
+        frame.mix
     }
 }

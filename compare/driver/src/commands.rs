@@ -69,14 +69,15 @@ pub fn state(random: &mut Random) -> State {
 }
 
 /// The numbers of a command, with no mix yet.
-struct Command {
-    torque: [f32; 3],
-    thrust: f32,
-    floor: f32,
+pub struct Command {
+    pub torque: [f32; 3],
+    pub thrust: f32,
+    pub floor: f32,
 }
 
 /// A torque that asks about this much of a motor: on one axis, or shared by two or three, with any
-/// signs.
+/// signs. A NaN among them is the quiet one, since the sign of one that an operation makes is the
+/// processor's.
 fn torque_of(random: &mut Random, size: f32) -> [f32; 3] {
     let share = random.unit();
     let shares = match random.below(4) {
@@ -90,11 +91,12 @@ fn torque_of(random: &mut Random, size: f32) -> [f32; 3] {
     for (k, share) in shares.into_iter().enumerate() {
         let sign = random.one_of(&[1.0, -1.0]);
         let part = size * share * sign;
-        torque[(first + k) % 3] = if share == 0.0 {
+        let asked = if share == 0.0 {
             part
         } else {
             random.near(part)
         };
+        torque[(first + k) % 3] = if asked.is_nan() { f32::NAN } else { asked };
     }
     torque
 }
@@ -143,7 +145,8 @@ fn in_flight(random: &mut Random) -> Command {
     }
 }
 
-fn command(random: &mut Random) -> Command {
+/// A command of any kind.
+pub fn command(random: &mut Random) -> Command {
     match random.below(5) {
         0 => Command {
             torque: [(); 3].map(|_| random.any()),
@@ -165,6 +168,9 @@ fn command(random: &mut Random) -> Command {
     }
 }
 
+/// What the kinds of commands are.
+pub const COMMAND_KINDS: &str = "any mixture, special values, any bits, thresholds, flight";
+
 /// A call of a mix with a command of any kind.
 pub fn call(random: &mut Random, mix: Mix) -> Call {
     let Command {
@@ -184,9 +190,8 @@ pub fn call(random: &mut Random, mix: Mix) -> Call {
 /// One call of a mix.
 pub fn calls(mix: Mix) -> Inputs<impl Fn(u64) -> (State, Call)> {
     const SEED: u64 = 9;
-    let kinds =
-        "any mixture, special values, any bits, thresholds, flight; state fresh, any bits, mixture";
-    seeded(kinds, SEED, 1 << 27, move |n| {
+    let kinds = format!("{COMMAND_KINDS}; state fresh, any bits, mixture");
+    seeded(&kinds, SEED, 1 << 27, move |n| {
         let mut random = Random::new(SEED, n);
         (state(&mut random), call(&mut random, mix))
     })

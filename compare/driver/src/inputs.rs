@@ -19,6 +19,19 @@ pub fn seeded<M>(kinds: &str, seed: u64, cases: u64, make: M) -> Inputs<M> {
     }
 }
 
+/// The one case of a function that takes nothing.
+pub fn once() -> Inputs<impl Fn(u64) -> [f32; 0]> {
+    Inputs {
+        kinds: "no input".into(),
+        cases: 1,
+        make: |_| [],
+    }
+}
+
+/// What stands in a lent array before the call: a number that no input leads to, so that one which
+/// is left as lent shows.
+pub const LENT: f32 = f32::from_bits(0x5aa5_5aa5);
+
 // ---- every pattern
 
 /// How many patterns a number of 32 bits has.

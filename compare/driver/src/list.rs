@@ -16,7 +16,12 @@ mod commands;
 #[allow(dead_code)]
 mod compare;
 #[allow(dead_code)]
+mod frames;
+#[allow(dead_code)]
 mod inputs;
+#[allow(dead_code)]
+mod lent;
+mod list_frame;
 mod list_quad;
 #[allow(dead_code)]
 mod rust;
@@ -48,7 +53,7 @@ fn main() -> ExitCode {
     ExitCode::SUCCESS
 }
 
-/// The whole list. The numbers of the kinds are those of crates/replay/src/answers.rt.
+/// The whole list. The numbers of the kinds are those of crates/replay/src.
 fn list() -> List {
     let mut list = List::default();
     list.add("sanitise", 1, 640, numbers(), |&x| {
@@ -68,6 +73,7 @@ fn list() -> List {
     list.add("solve3", 8, 512, systems(), solve3);
     list.add("solve3, rotor-out", 8, 256, rotor_out_systems(), solve3);
     list_quad::add_quad(&mut list);
+    list_frame::add_frames(&mut list);
     list
 }
 
@@ -119,12 +125,14 @@ fn numbers_and_floors() -> Inputs<impl Fn(u64) -> (f32, f32)> {
 /// The inputs and the answers of a record.
 type Record = (Vec<u32>, Vec<u32>);
 
-/// Inputs that are floats, with whatever bits they have, and one answer.
+/// Inputs that are floats, with whatever bits they have.
+fn words(inputs: &[f32]) -> Vec<u32> {
+    inputs.iter().map(|x| x.to_bits()).collect()
+}
+
+/// Inputs and one answer.
 fn one(inputs: &[f32], answer: f32) -> Record {
-    (
-        inputs.iter().map(|x| x.to_bits()).collect(),
-        vec![bits(&answer)],
-    )
+    (words(inputs), vec![bits(&answer)])
 }
 
 /// The floor, then the bases, then as many deltas.
@@ -137,7 +145,7 @@ fn scale(f: &Fit) -> Record {
 /// The matrix, row by row, then the right side. Answers: whether there is a solution, and it.
 fn solve3(s: &System) -> Record {
     let (solved, x) = rust::solve3(s);
-    let inputs = s.a.iter().chain(&s.rhs).map(|x| x.to_bits()).collect();
+    let inputs = [words(&s.a), words(&s.rhs)].concat();
     let [a, b, c] = x.map(|x| bits(&x));
     (inputs, vec![u32::from(solved), a, b, c])
 }

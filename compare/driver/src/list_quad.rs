@@ -15,8 +15,8 @@ use crate::chains::chains;
 use crate::commands::{calls, motors, Call, Mix, State, MIXES};
 use crate::inputs::Inputs;
 use crate::rust::{self, bits};
-use crate::special::{chosen_calls, special_calls, special_motors};
-use crate::{List, Record};
+use crate::special::{chosen_calls, special_calls, special_fours};
+use crate::{words, List, Record};
 
 pub fn add_quad(list: &mut List) {
     let mut quad = Quad {
@@ -29,7 +29,13 @@ pub fn add_quad(list: &mut List) {
         quad.add_calls(mix.name(), 512, calls(mix));
     }
     quad.add_chains(96);
-    list.add("motors_to_torque_signs", 23, 64, special_motors(), signs);
+    list.add(
+        "motors_to_torque_signs",
+        23,
+        64,
+        special_fours("motors"),
+        signs,
+    );
     list.add("motors_to_torque_signs", 23, 64, motors(), signs);
 }
 
@@ -44,11 +50,6 @@ fn signs(motors: &[f32; 4]) -> Record {
         words(motors),
         motors_to_torque_signs(*motors).iter().map(bits).collect(),
     )
-}
-
-/// Inputs, with whatever bits they have.
-fn words(inputs: &[f32]) -> Vec<u32> {
-    inputs.iter().map(|x| x.to_bits()).collect()
 }
 
 /// The list, and the state at its end.

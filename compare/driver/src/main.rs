@@ -11,13 +11,17 @@ mod chains;
 mod commands;
 mod compare;
 mod findings;
+mod frame_table;
+mod frames;
 mod inputs;
+mod lent;
 mod ours;
 mod quad_table;
 mod rust;
 mod special;
 mod table;
 mod wrong;
+mod wrong_frame;
 mod wrong_quad;
 
 use std::process::ExitCode;
@@ -40,12 +44,19 @@ fn main() -> ExitCode {
     let good = if findings {
         run_findings()
     } else if wrong {
-        notice_all(
-            &joined(wrong::wrong_table(), wrong_quad::wrong_quad_table()),
-            quick,
-        )
+        let tables = [
+            wrong::wrong_table(),
+            wrong_quad::wrong_quad_table(),
+            wrong_frame::wrong_frame_table(),
+        ];
+        notice_all(&joined(tables), quick)
     } else {
-        compare_all(&joined(table::table(), quad_table::quad_table()), quick)
+        let tables = [
+            table::table(),
+            quad_table::quad_table(),
+            frame_table::frame_table(),
+        ];
+        compare_all(&joined(tables), quick)
     };
     if good {
         ExitCode::SUCCESS
@@ -54,9 +65,8 @@ fn main() -> ExitCode {
     }
 }
 
-fn joined(mut rows: Vec<Row>, more: Vec<Row>) -> Vec<Row> {
-    rows.extend(more);
-    rows
+fn joined(tables: [Vec<Row>; 3]) -> Vec<Row> {
+    tables.into_iter().flatten().collect()
 }
 
 /// Compares every row, and says whether no answer differs.

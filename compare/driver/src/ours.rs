@@ -3,6 +3,9 @@
 //! Rattle source. The calls are all that is unsafe in this program.
 
 use crate::commands::{Call, Mix, State};
+use crate::frames::{Frame, Wrench};
+use crate::inputs::LENT;
+use crate::lent::{After, Lent, MOST_LENT};
 
 mod probes {
     extern "C" {
@@ -12,7 +15,6 @@ mod probes {
         pub fn probe_limit(x: f32) -> f32;
         pub fn probe_clamp(x: f32, lo: f32, hi: f32) -> f32;
         pub fn probe_clamp_floor(x: f32, lo: f32) -> f32;
-        pub fn probe_clamp01(x: f32) -> f32;
         pub fn probe_float_of(bits: u32) -> f32;
         pub fn probe_bits_of(x: f32) -> u32;
         pub fn probe_scale(
@@ -66,6 +68,33 @@ mod probes {
             out: *mut [f32; 5],
         );
         pub fn probe_quad_motors_to_torque_signs(motors: *const [f32; 4], out: *mut [f32; 3]);
+        pub fn probe_frame_new(mix: *const [f32; 32], n: usize, out: *mut [f32; 32]) -> usize;
+        pub fn probe_frame_quad_x(out: *mut [f32; 32]) -> usize;
+        pub fn probe_frame_mix(
+            mix: *const [f32; 32],
+            n: usize,
+            torque: *const [f32; 3],
+            thrust: f32,
+            out: *mut [f32; 8],
+        );
+        pub fn probe_frame_achieved_wrench(
+            mix: *const [f32; 32],
+            n: usize,
+            motors: *const [f32; 8],
+            out: *mut [f32; 4],
+        );
+        pub fn probe_multi_clamp01(x: f32) -> f32;
+        pub fn probe_multi_mix(
+            rows: *const f32,
+            rows_len: usize,
+            wrench: *const [f32; 4],
+            out: *mut f32,
+            out_len: usize,
+        ) -> u32;
+        pub fn probe_multi_hex_x(out: *mut [f32; 24]);
+        pub fn probe_multi_octo_coax(out: *mut [f32; 32]);
+        pub fn probe_multi_mix_hex_x(wrench: *const [f32; 4], out: *mut [f32; 6]);
+        pub fn probe_multi_mix_octo_coax(wrench: *const [f32; 4], out: *mut [f32; 8]);
     }
 }
 
@@ -100,11 +129,6 @@ pub fn clamp_floor(x: f32, lo: f32) -> f32 {
 }
 
 #[inline]
-pub fn clamp01(x: f32) -> f32 {
-    unsafe { probes::probe_clamp01(x) }
-}
-
-#[inline]
 pub fn float_of(bits: u32) -> f32 {
     unsafe { probes::probe_float_of(bits) }
 }
@@ -131,10 +155,6 @@ pub fn scale(base: &[f32], delta: &[f32], floor: f32) -> f32 {
 pub fn det3(a: &[f32; 9]) -> f32 {
     unsafe { probes::probe_det3(a) }
 }
-
-/// What stands in a lent array before the call: a number that no input leads to, so that one which
-/// is left as lent shows.
-const LENT: f32 = f32::from_bits(0x5aa5_5aa5);
 
 /// Whether there is a solution, and the three numbers.
 #[inline]
@@ -209,5 +229,89 @@ pub fn quad_mixed(state: &State, call: &Call) -> State {
 pub fn torque_signs(motors: &[f32; 4]) -> [f32; 3] {
     let mut out = [LENT; 3];
     unsafe { probes::probe_quad_motors_to_torque_signs(motors, &mut out) };
+    out
+}
+
+// ---- any airframe
+
+/// The frame that `new` gives.
+#[inline]
+pub fn frame_new(f: &Frame) -> Frame {
+    let mut run = [LENT; 32];
+    let count = unsafe { probes::probe_frame_new(&f.run, f.count, &mut run) };
+    Frame { run, count }
+}
+
+#[inline]
+pub fn quad_x() -> Frame {
+    let mut run = [LENT; 32];
+    let count = unsafe { probes::probe_frame_quad_x(&mut run) };
+    Frame { run, count }
+}
+
+#[inline]
+pub fn frame_mix(f: &Frame, &[thrust, roll, pitch, yaw]: &Wrench) -> [f32; 8] {
+    let mut out = [LENT; 8];
+    let torque = [roll, pitch, yaw];
+    unsafe { probes::probe_frame_mix(&f.run, f.count, &torque, thrust, &mut out) };
+    out
+}
+
+#[inline]
+pub fn achieved_wrench(f: &Frame, motors: &[f32; 8]) -> Wrench {
+    let mut out = [LENT; 4];
+    unsafe { probes::probe_frame_achieved_wrench(&f.run, f.count, motors, &mut out) };
+    out
+}
+
+// ---- 001
+
+#[inline]
+pub fn clamp01(x: f32) -> f32 {
+    unsafe { probes::probe_multi_clamp01(x) }
+}
+
+/// The number that a call answers, and the room for outputs afterwards, of which a part is lent.
+#[inline]
+pub fn lent_mix(l: &Lent) -> After {
+    let mut out = [LENT; MOST_LENT];
+    let (rows, part) = (l.rows(), &mut out[..l.outputs]);
+    let number = unsafe {
+        probes::probe_multi_mix(
+            rows.as_ptr(),
+            rows.len(),
+            &l.wrench,
+            part.as_mut_ptr(),
+            part.len(),
+        )
+    };
+    (number, out)
+}
+
+#[inline]
+pub fn hex_x_run() -> [f32; 24] {
+    let mut run = [LENT; 24];
+    unsafe { probes::probe_multi_hex_x(&mut run) };
+    run
+}
+
+#[inline]
+pub fn octo_coax_run() -> [f32; 32] {
+    let mut run = [LENT; 32];
+    unsafe { probes::probe_multi_octo_coax(&mut run) };
+    run
+}
+
+#[inline]
+pub fn hex_x_mix(wrench: &Wrench) -> [f32; 6] {
+    let mut out = [LENT; 6];
+    unsafe { probes::probe_multi_mix_hex_x(wrench, &mut out) };
+    out
+}
+
+#[inline]
+pub fn octo_coax_mix(wrench: &Wrench) -> [f32; 8] {
+    let mut out = [LENT; 8];
+    unsafe { probes::probe_multi_mix_octo_coax(wrench, &mut out) };
     out
 }

@@ -6,8 +6,8 @@ use relay_mix_quad::{motors_to_torque_signs, QuadMixer};
 use crate::chains::{chains, Chain, CALLS};
 use crate::commands::{calls, motors, states, Call, State, MIXES};
 use crate::compare::{row, Row};
-use crate::inputs::Inputs;
-use crate::special::{chosen_calls, special_calls, special_motors};
+use crate::inputs::once;
+use crate::special::{chosen_calls, special_calls, special_fours};
 use crate::{ours, rust};
 
 /// The motors returned, and the state afterwards.
@@ -35,7 +35,7 @@ pub fn quad_table() -> Vec<Row> {
     rows.push(row("five mixes, chains", chains(), our_chain, rust_chain));
     rows.push(row(
         "motors_to_torque_signs, special values",
-        special_motors(),
+        special_fours("motors"),
         ours::torque_signs,
         |m| motors_to_torque_signs(*m),
     ));
@@ -46,15 +46,6 @@ pub fn quad_table() -> Vec<Row> {
         |m| motors_to_torque_signs(*m),
     ));
     rows
-}
-
-/// The one case of a function that takes nothing.
-fn once() -> Inputs<impl Fn(u64) -> [f32; 0]> {
-    Inputs {
-        kinds: "no input".into(),
-        cases: 1,
-        make: |_| [],
-    }
 }
 
 // ---- one call

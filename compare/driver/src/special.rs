@@ -97,7 +97,7 @@ const BELOW_EIGHT: f32 = f32::from_bits(8.0_f32.to_bits() - 1);
 const ABOVE_EIGHT: f32 = f32::from_bits(8.0_f32.to_bits() + 1);
 
 /// 2^127.
-const TOP: f32 = f32::from_bits(0x7f00_0000);
+pub const TOP: f32 = f32::from_bits(0x7f00_0000);
 
 /// A NaN that is not quiet, and negative.
 const SIGNALLING: f32 = f32::from_bits(0xff80_0001);
@@ -162,11 +162,11 @@ pub fn special_calls(mix: Mix) -> Inputs<impl Fn(u64) -> (State, Call)> {
     })
 }
 
-/// Every four special values.
-pub fn special_motors() -> Inputs<impl Fn(u64) -> [f32; 4]> {
+/// Every four special values, which serve as what is named.
+pub fn special_fours(named: &str) -> Inputs<impl Fn(u64) -> [f32; 4]> {
     const CASES: u64 = (TORQUES.len() as u64).pow(4);
     Inputs {
-        kinds: "all of 48^4 motors".into(),
+        kinds: format!("all of 48^4 {named}"),
         cases: CASES,
         make: |n| {
             let mut digits = strided(n, CASES);

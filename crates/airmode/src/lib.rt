@@ -17,7 +17,7 @@ ghost use Rattle.rules.specs.Airmode.{spread, spreadScale, unshifted, shift, sh
 fn spread(d: [f32; 4]) -> f32
     ensures { λ r. ⌜ r ≡ spread d ⌝ }
 {
-    sanitise(largest(d) - least(d))
+    sanitise(largest(&d) - least(&d))
 }
 
 // How much of a spread fits between idle and 1.
@@ -47,7 +47,7 @@ fn shift(idle: f32, lo: f32, hi: f32) -> f32
 fn shifted(idle: f32, m: [f32; 4]) -> [f32; 4]
     ensures { λ r. ⌜ r ≡ shifted idle m ⌝ }
 {
-    let by = shift(idle, least(m), largest(m));
+    let by = shift(idle, least(&m), largest(&m));
     [
         clamp_floor(m[0] + by, idle),
         clamp_floor(m[1] + by, idle),

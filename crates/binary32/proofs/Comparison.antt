@@ -3,7 +3,7 @@ use mathlib.Core.Path.{_≡_, sym, ap, _∙_}
 use mathlib.Core.Bool.{Bool, true, false, not, _||_, false≢true}
 use Prim.Native.Nat.{_+_, _≤_, _<_}
 use native.Mathlib.Omega.{arith}
-use borrow.Author.Tests.{ltb-true, ltb-false, leb-true, le-ltb, le-leb}
+use borrow.Author.Tests.{ltb-true, ltb-false, leb-true, lt-ltb, le-ltb, le-leb}
 use lib.Dec.{T}
 use lib.Ieee.{Float, nan, inf, fin, Format, lt, le, eq, isNan}
 use Rattle.binary32.specs.Whole.{over, under}
@@ -35,6 +35,9 @@ number-le x (fin t n d) h = tt
 pub lt-units : {f : Format} {x y : Float} → Number f x → Number f y → lt x y ≡ true → over f x + under f y < over f y + under f x
 lt-units nx ny h = ltb-true _ _ (sym (lt-whole nx ny) ∙ h)
 
+pub units-lt : {f : Format} {x y : Float} → Number f x → Number f y → over f x + under f y < over f y + under f x → lt x y ≡ true
+units-lt nx ny h = lt-whole nx ny ∙ lt-ltb _ _ h
+
 pub le-units : {f : Format} {x y : Float} → Number f x → Number f y → le x y ≡ true → over f x + under f y ≤ over f y + under f x
 le-units nx ny h = leb-true _ _ (sym (le-whole nx ny) ∙ h)
 
@@ -51,6 +54,12 @@ le-trans nx ny nz p q =
     let first = le-units nx ny p in
     let second = le-units ny nz q in
     units-le nx nz (omega arith)
+
+pub less-trans : {f : Format} {x y z : Float} → Number f x → Number f y → Number f z → lt x y ≡ true → lt y z ≡ true → lt x z ≡ true
+less-trans nx ny nz p q =
+    let first = lt-units nx ny p in
+    let second = lt-units ny nz q in
+    units-lt nx nz (omega arith)
 
 -- what is not under y is at least y, and what is at most y is not over it
 pub not-under : {f : Format} {x y : Float} → Number f x → Number f y → lt x y ≡ false → le y x ≡ true

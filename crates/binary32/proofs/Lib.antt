@@ -13,3 +13,4 @@ pub mod Absolute
 pub mod Range
 pub mod Overflow
 pub mod LessOne
+pub mod Zero

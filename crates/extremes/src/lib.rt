@@ -1,5 +1,5 @@
-// The largest and the least of four numbers. Follows the loops that relay-mix-quad's `mix` and `mix_airmode` have for them (Apache-2.0, see NOTICE); changed: written in
-// Rattle with contracts, as functions of their own, the loops written out.
+// The largest and the least of some numbers. Follows the loops that relay-mix-quad's mixes have for them (Apache-2.0, see NOTICE); changed: written in Rattle with
+// contracts, as functions of their own over any count.
 use number::pick;
 ghost use mathlib.Core.Path.{_≡_};
 ghost use Rattle.rules.specs.Extremes.{larger, smaller, largest, least};
@@ -18,14 +18,34 @@ fn smaller(held: f32, x: f32) -> f32
     pick(x < held, x, held)
 }
 
-pub fn largest(m: [f32; 4]) -> f32
-    ensures { λ r. ⌜ r ≡ largest m ⌝ }
+// The largest, and of equal ones the first; +0 of none.
+pub fn largest(m: &[f32]) -> f32
+    ensures { λ r. ⌜ r ≡ largest (now (m .entry)) ⌝ }
 {
-    larger(larger(larger(m[0], m[1]), m[2]), m[3])
+    if m.len() == 0 {
+        return 0.0;
+    }
+    let mut held = m[0];
+    let mut i = 1;
+    while i < m.len() {
+        held = larger(held, m[i]);
+        i += 1;
+    }
+    held
 }
 
-pub fn least(m: [f32; 4]) -> f32
-    ensures { λ r. ⌜ r ≡ least m ⌝ }
+// The least, and of equal ones the first; +0 of none.
+pub fn least(m: &[f32]) -> f32
+    ensures { λ r. ⌜ r ≡ least (now (m .entry)) ⌝ }
 {
-    smaller(smaller(smaller(m[0], m[1]), m[2]), m[3])
+    if m.len() == 0 {
+        return 0.0;
+    }
+    let mut held = m[0];
+    let mut i = 1;
+    while i < m.len() {
+        held = smaller(held, m[i]);
+        i += 1;
+    }
+    held
 }

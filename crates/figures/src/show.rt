@@ -4,16 +4,25 @@ use quad::QuadMixer;
 use wire::bits::bits_of;
 
 // A line: the figure's number, the mix, and what the readers say of the state after it.
-pub fn print(figure: u64, mix: &[u8], after: QuadMixer) {
+pub fn print_state(figure: u64, mix: &[u8], after: QuadMixer) {
+    let m = after.last_motors();
+    print(
+        figure,
+        mix,
+        &[m[0], m[1], m[2], m[3], after.last_torque_scale()],
+    );
+}
+
+// A line: the figure's number, the mix, and its motors.
+pub fn print(figure: u64, mix: &[u8], motors: &[f32]) {
     print_number(figure);
     io::write_all(STDOUT_FILENO, b" ");
     io::write_all(STDOUT_FILENO, mix);
-    let m = after.last_motors();
-    print_float(m[0]);
-    print_float(m[1]);
-    print_float(m[2]);
-    print_float(m[3]);
-    print_float(after.last_torque_scale());
+    let mut i = 0;
+    while i < motors.len() {
+        print_float(motors[i]);
+        i += 1;
+    }
     io::write_all(STDOUT_FILENO, b"\n");
 }
 

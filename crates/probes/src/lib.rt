@@ -1,11 +1,13 @@
 // The inner functions, exported for comparison with the Rust alone (compare/). Each passes on what one function of a crate below gives, and its contract says
 // the same. It is no interface for an autopilot.
+mod mixer_n;
 mod quad_mixer;
+mod wrench;
 
 ghost use mathlib.Core.Path.{_≡_};
 ghost use lib.Ieee.{binary32, isNan, ofBits, toBits};
 ghost use lib.Ieee.Scale.{finite};
-ghost use Rattle.number.specs.Treat.{treated, clamped, limited, floorClamp, unitClamp};
+ghost use Rattle.number.specs.Treat.{treated, clamped, limited, floorClamp};
 ghost use Rattle.wire.specs.Bytes.{bytesOf, readAt, writeAt};
 ghost use Rattle.fit.specs.Fit.{fitScale};
 ghost use Rattle.solve.specs.Solve.{entry, determinant, solution};
@@ -51,13 +53,6 @@ pub extern "C" fn probe_clamp_floor(x: f32, lo: f32) -> f32
     ensures { λ r. ⌜ r ≡ floorClamp x lo ⌝ }
 {
     number::clamp_floor(x, lo)
-}
-
-#[no_mangle]
-pub extern "C" fn probe_clamp01(x: f32) -> f32
-    ensures { λ r. ⌜ r ≡ unitClamp x ⌝ }
-{
-    number::clamp01(x)
 }
 
 #[no_mangle]

@@ -1,6 +1,6 @@
 -- Each public contract determines its answer: two results that satisfy it are one, by bits. A contract of this crate either says what the answer equals, or
 -- is `Mixed`, whose `is` does. Assumes nothing.
-use mathlib.Core.Path.{_≡_, sym, _∙_}
+use mathlib.Core.Path.{_≡_}
 use mathlib.Core.List.{List}
 use Prim.Native.Nat.{ℕ}
 use lib.Ieee.{Float}
@@ -13,14 +13,9 @@ use Rattle.rules.specs.Airmode.{airmodeMotors}
 use Rattle.rules.specs.RotorOut.{rotorOutMotors}
 use Rattle.rules.specs.Torque.{torqueOf}
 use Rattle.rules.specs.Promises.{PlainKeeps, ThrustFloorKeeps, PriorityKeeps, AirmodeKeeps, RotorOutKeeps}
+use Rattle.rules.proofs.Determined.{Determined, equal-determined}
 use Rattle.quad.specs.declared.QuadMixer.{QuadMixer}
 use Rattle.quad.specs.State.{fresh, Mixed}
-
-abbrev Determined : {A : Type 0} → (A → Type 0) → Type 0
-Determined {A} P = (r q : A) → P r → P q → r ≡ q
-
-equal-determined : {A : Type 0} {x : A} → Determined (λ (r : A). r ≡ x)
-equal-determined r q h k = h ∙ sym k
 
 mixed-determined : {motors : List Float} {scale : Float} {Keeps : List Float → Float → Type 0} → Determined (Mixed motors scale Keeps)
 mixed-determined r q h k = equal-determined r q (h .is) (k .is)

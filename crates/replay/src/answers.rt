@@ -1,4 +1,5 @@
-// Our answers, kind by kind. One kind more is an arm of `answer` here, or in mixes.rt if it is about the quad, and a line in compare/driver/src/list.rs.
+// Our answers, kind by kind. One kind more is an arm of `answer` here, in mixes.rt if it is about the quad, or in frames.rt if it is about any frame, and a line in
+// compare/driver/src/list.rs.
 ghost use Prim.Native.Nat.{_+_, _≤_};
 ghost use lib.ListN.{length};
 use crate::mixes;
@@ -7,7 +8,7 @@ use wire::bits::bits_of;
 use wire::words::WORDS;
 
 // The most words that the inputs of a kind take, and its answers, which are compared as a run of words.
-pub const INPUTS: usize = 16;
+pub const INPUTS: usize = 260;
 
 pub const ANSWERS: usize = WORDS;
 
@@ -39,14 +40,28 @@ pub fn answer(head: u32, x: &[f32; INPUTS], state: QuadMixer) -> Ours {
     }
 }
 
-fn one(state: QuadMixer, x: f32) -> Ours {
+// Floats as the answers: their bits, and zeros after the last. There is room for 128.
+pub fn words_of(floats: &[f32]) -> [u32; ANSWERS] {
     let mut words = [0; ANSWERS];
-    words[0] = bits_of(x);
+    let mut i = 0;
+    while i < ANSWERS && i < floats.len() {
+        words[i] = bits_of(floats[i]);
+        i += 1;
+    }
+    words
+}
+
+// These answers, and a state that the record did not ask for and so stays.
+pub fn told(words: [u32; ANSWERS], state: QuadMixer) -> Ours {
     Ours {
         known: true,
         words,
         state,
     }
+}
+
+fn one(state: QuadMixer, x: f32) -> Ours {
+    told(words_of(&[x]), state)
 }
 
 // The inputs are the floor, the bases and the deltas.
@@ -72,9 +87,5 @@ fn solution(state: QuadMixer, x: &[f32; INPUTS]) -> Ours {
     words[1] = bits_of(v[0]);
     words[2] = bits_of(v[1]);
     words[3] = bits_of(v[2]);
-    Ours {
-        known: true,
-        words,
-        state,
-    }
+    told(words, state)
 }

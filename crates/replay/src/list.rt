@@ -10,7 +10,7 @@ use wire::bytes::read_u32;
 use wire::words::same;
 
 // How many bytes there is room for: more than a list has.
-pub const ROOM: usize = 524288;
+pub const ROOM: usize = 1048576;
 
 // How many of the differences are shown.
 const SHOWN: usize = 4;
@@ -100,7 +100,7 @@ fn compare(number: usize, record: &[u8], state: QuadMixer, is_shown: bool) -> Se
 fn inputs(record: &[u8]) -> [f32; INPUTS] {
     let mut x = [0.0; INPUTS];
     let mut i = 0;
-    while i < INPUTS {
+    while i < INPUTS && 4 + 4 * i < record.len() {
         x[i] = float_of(read_u32(record, 4 + 4 * i));
         i += 1;
     }
@@ -113,7 +113,7 @@ fn words_from(record: &[u8], from: usize) -> [u32; ANSWERS]
 {
     let mut words = [0; ANSWERS];
     let mut i = 0;
-    while i < ANSWERS {
+    while i < ANSWERS && from + 4 * i < record.len() {
         words[i] = read_u32(record, from + 4 * i);
         i += 1;
     }

@@ -3,7 +3,8 @@
 // `compare/run --list` writes from the Rust alone.
 //
 // The list is words of four bytes, little-endian: how many records there are, and then the records. A record is its head, its inputs and its answers.
-// A head is 0xKKAAIIII: the kind, how many words the answers take, and how many the inputs take. answers.rt and mixes.rt have the heads.
+// A head is 0xKKAAIIII: the kind, how many words the answers take, and how many the inputs take. answers.rt, mixes.rt and
+// frames.rt have the heads.
 //
 // The kinds, in decimal, with their inputs:
 // - 1 `sanitise`, 2 `limit`, 3 `clamp01`, 4 from bits to bits: a number. 5 `clamp_floor`: a number and a floor.
@@ -12,14 +13,18 @@
 // - 11 `mix`: roll, pitch, yaw, thrust. 12 `mix_thrust_floor`, 13 `mix_priority`, 14 `mix_airmode`: the same and a floor.
 // - `mix_rotor_out` of rotor 0 to 3 in 16 to 19, of rotor 4 in 20, of 255 in 21, of the largest usize in 22: the same and a floor.
 // - 23 `motors_to_torque_signs`: four motors.
+// - `MixerN`'s `mix` with a count of 0, 4, 8 and 255 in 24 to 27: 32 floats of the matrix, roll, pitch, yaw, thrust. 28 `quad_x`'s `mix`: the last four. The answers
+//   are eight motors and the count. 29 `achieved_wrench`: the matrix and eight motors.
+// - 30 001's `mix`: thrust, roll, pitch, yaw, and four floats for each of 0, 1, 2, 3, 4, 6, 8, 16, 63 or 64 outputs. 31 `hex_x`'s and 32 `octo_coax`'s: the first four.
 //
 // The program holds one state of the quad, a new one at the start. A record of 9 to 22 changes it, and its answers are the four motors and the scale that the
 // readers then give; so each is compared from the state that the records before it left.
 //
 // A float is written as its bits, and an answer that is a NaN as 7fc00000, just as `bits_of` writes ours, so any NaN agrees with any other. A truth is
-// 1 or 0. A head that neither file has counts as a difference, and so does a list that is not as many whole records as it says: what is not read
+// 1 or 0. A head that no file has counts as a difference, and so does a list that is not as many whole records as it says: what is not read
 // never passes.
 mod answers;
+mod frames;
 mod list;
 mod mixes;
 mod show;

@@ -1,10 +1,11 @@
 // Our answers about the quad. A mix acts on the state that the record before it left, and its answers are what the readers say of the new state.
-use crate::answers::ANSWERS;
 use crate::answers::INPUTS;
 use crate::answers::Ours;
+use crate::answers::told;
+use crate::answers::words_of;
+use crate::frames;
 use quad::QuadMixer;
 use quad::motors_to_torque_signs;
-use wire::bits::bits_of;
 
 pub fn answer(head: u32, x: &[f32; INPUTS], state: QuadMixer) -> Ours {
     match head {
@@ -22,28 +23,17 @@ pub fn answer(head: u32, x: &[f32; INPUTS], state: QuadMixer) -> Ours {
         0x1505_0005 => read(rotor_out(state, 255, x)),
         0x1605_0005 => read(rotor_out(state, usize::MAX, x)),
         0x1703_0004 => torque_of(state, x),
-        _ => Ours {
-            known: false,
-            words: [0; ANSWERS],
-            state,
-        },
+        _ => frames::answer(head, x, state),
     }
 }
 
 // A new state as the answer.
 fn read(state: QuadMixer) -> Ours {
     let m = state.last_motors();
-    let mut words = [0; ANSWERS];
-    words[0] = bits_of(m[0]);
-    words[1] = bits_of(m[1]);
-    words[2] = bits_of(m[2]);
-    words[3] = bits_of(m[3]);
-    words[4] = bits_of(state.last_torque_scale());
-    Ours {
-        known: true,
-        words,
+    told(
+        words_of(&[m[0], m[1], m[2], m[3], state.last_torque_scale()]),
         state,
-    }
+    )
 }
 
 // The inputs are the state itself: the motors and the scale.
@@ -70,13 +60,5 @@ fn motors(x: &[f32; INPUTS]) -> [f32; 4] {
 // The inputs are the motors, and the answers the three sums. The state is not asked and stays.
 fn torque_of(state: QuadMixer, x: &[f32; INPUTS]) -> Ours {
     let sums = motors_to_torque_signs(motors(x));
-    let mut words = [0; ANSWERS];
-    words[0] = bits_of(sums[0]);
-    words[1] = bits_of(sums[1]);
-    words[2] = bits_of(sums[2]);
-    Ours {
-        known: true,
-        words,
-        state,
-    }
+    told(words_of(&sums), state)
 }

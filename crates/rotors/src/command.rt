@@ -5,6 +5,14 @@ use number::sanitise;
 ghost use mathlib.Core.Path.{_≡_};
 ghost use Rattle.rules.specs.Rows.{quadRows};
 ghost use Rattle.rules.specs.Command.{lifted, delta, deltas};
+ghost use Rattle.rules.specs.Plain.{rawSum};
+
+// What thrust and torques ask of the motor of one row. It is not treated: an overflow shows as an infinity.
+pub fn raw_sum(row: [f32; 4], t: f32, r: f32, p: f32, y: f32) -> f32
+    ensures { λ m. ⌜ m ≡ rawSum t r p y row ⌝ }
+{
+    row[0] * t + row[1] * r + row[2] * p + row[3] * y
+}
 
 // The collective: a limited thrust, lifted to the limited floor where it is under it.
 pub fn lift(t: f32, floor: f32) -> f32

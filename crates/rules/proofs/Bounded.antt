@@ -17,14 +17,16 @@ use Rattle.fit.specs.Fit.{fitScale}
 use Rattle.fit.proofs.Bounded.{scale-between}
 use Rattle.rules.specs.Rows.{Row, quadRows}
 use Rattle.rules.specs.Command.{deltas}
-use Rattle.rules.specs.Plain.{rawSum, rawSums, loweredBy, lowered, plainMotors}
+use Rattle.rules.specs.Plain.{rawSum, rawSums, loweredBy, lowered, lowerLimited, plainMotors}
 use Rattle.rules.specs.ThrustFloor.{oneScale, scaledMotor, scaledMotors, thrustFloorScale, thrustFloorMotors}
 use Rattle.rules.specs.Priority.{priorityMotor, priorityMotors}
 use Rattle.rules.specs.Airmode.{shifted, airmodeMotors}
 use Rattle.rules.specs.RotorOut.{tiltMotor, motorWithout, motorsWithout}
+use Rattle.rules.specs.Frame.{frameMotors}
+use Rattle.rules.specs.Multi.{wrenchMotors}
 use Rattle.rules.specs.Promises.{Each, InUnit, RotorOutKeeps}
 use Rattle.rules.proofs.Lists.{each-mapped, each-at}
-use Rattle.rules.proofs.Clamp.{Floor, Inside, zero-floor, limited-floor, inside-unit, treated-finite, clamp-inside}
+use Rattle.rules.proofs.Clamp.{Floor, Inside, zero-floor, limited-floor, inside-unit, treated-finite, clamp-inside, unit-clamp-between}
 
 -- ---- motors that were clamped
 
@@ -72,10 +74,23 @@ lowered-fits : (most x : Float) → T (fits binary32 x) → T (fits binary32 (lo
 unfolding loweredBy
 lowered-fits most x h = by-test (λ z. T (fits binary32 z)) (lt 1f most) (λ e. sub-fits binary32 x _) (λ e. h)
 
--- the plain mix clamps at +0, which is a floor
+-- the limit after it is a clamp at +0, which is a floor: so for the plain mix, and for the mix of a frame, whose sums are treated first
+lower-limited-unit : {A : Type 0} (g : A → Float) → ((a : A) → T (fits binary32 (g a))) → (l : List A) → InUnit (lowerLimited (map g l))
+unfolding lowerLimited lowered
+lower-limited-unit g fg l = simp map-map (each-clamped _ (λ a. lowered-fits _ _ (fg a)) zero-floor l .unit)
+
 pub plain-unit : (rows : List Row) (torque : List Float) (thrust : Float) → InUnit (plainMotors rows torque thrust)
-unfolding plainMotors lowered rawSums rawSum
-plain-unit rows torque thrust = simp map-map (each-clamped _ (λ row. lowered-fits _ _ (add-fits binary32 _ _)) zero-floor rows .unit)
+unfolding plainMotors rawSums rawSum
+plain-unit rows torque thrust = lower-limited-unit _ (λ row. add-fits binary32 _ _) rows
+
+pub frame-unit : (rows : List Row) (torque : List Float) (thrust : Float) → InUnit (frameMotors rows torque thrust)
+unfolding frameMotors rawSums rawSum
+frame-unit rows torque thrust = simp map-map (lower-limited-unit _ (λ row. treated-finite _ (add-fits binary32 _ _) .fits) rows)
+
+-- 001 clamps each sum by itself
+pub wrench-unit : (rows : List Row) (t r p y : Float) → InUnit (wrenchMotors rows t r p y)
+unfolding wrenchMotors rawSum
+wrench-unit rows t r p y = each-mapped (Between 0f 1f) _ (λ row. unit-clamp-between _ (add-fits binary32 _ _)) rows
 
 -- ---- the rotor-out mix where a rotor is lost: that one is +0, every other one is bounded, and all four lie in 0..1
 

@@ -1,10 +1,10 @@
--- What holding a number to a range gives: the limited number lies in 0..1, and the floor clamp in floor..1; it leaves what lies there as it is, and keeps the
--- order of finite numbers. A floor is any number in 0..1. Last, what the mixes make of a command first: a delta is finite, and the collective is such a number.
--- Assumes nothing.
+-- What holding a number to a range gives: the limited number lies in 0..1, and the floor clamp in floor..1; it leaves what lies there as it is, gives the
+-- floor for what is under it, and keeps the order of finite numbers. A floor is any number in 0..1. Last, what the mixes make of a command first: a delta is
+-- finite, and the collective is such a number. Assumes nothing.
 use mathlib.Core.Path.{_≡_, refl, _∙_}
 use mathlib.Core.Bool.{Bool, true, false, cond}
 use lib.Dec.{T}
-use lib.Ieee.{Float, Format, binary32, fits, lt, le, eq, ofBits}
+use lib.Ieee.{Float, Format, binary32, fits, isNan, lt, le, eq, ofBits}
 use lib.Ieee.Bits.{is-true}
 use lib.Ieee.Fits.{add-fits, cond-fits}
 use lib.Ieee.Scale.{finite}
@@ -13,7 +13,7 @@ use Rattle.binary32.specs.Range.{Between}
 use Rattle.binary32.proofs.Magnitude.{Number, Finite, finite-number}
 use Rattle.binary32.proofs.Comparison.{less-le, le-refl, le-trans, not-under, not-over}
 use Rattle.binary32.proofs.Range.{zero-finite, one-finite, zero-number, one-number, between-finite}
-use Rattle.number.specs.Treat.{treated, clamped, limited, floorClamp}
+use Rattle.number.specs.Treat.{treated, clamped, limited, floorClamp, unitClamp}
 use Rattle.number.proofs.Choice.{by-test}
 use Rattle.rules.specs.Rows.{Row}
 use Rattle.rules.specs.Command.{lifted, collective, delta}
@@ -92,6 +92,11 @@ pub treated-finite : (x : Float) → T (fits binary32 x) → Finite binary32 (tr
 unfolding treated
 treated-finite x h = by-test (Finite binary32) (finite x) (λ e. record { fits = h; finite = rw e tt }) (λ e. zero-finite)
 
+-- and a finite number stays as it is
+pub treated-stays : {x : Float} → Finite binary32 x → treated x ≡ x
+unfolding treated
+treated-stays {x} h = rw (is-true (finite x) (h .finite))
+
 -- a limited number lies in 0..1, so it is a floor
 pub limited-floor : (x : Float) → T (fits binary32 x) → Floor (limited x)
 unfolding limited
@@ -114,10 +119,25 @@ clamp-finite {x} h lo = rw (is-true (finite x) (h .finite))
 pub clamp-stays : {x lo : Float} → Floor lo → Inside lo x → floorClamp x lo ≡ x
 clamp-stays {lo} h i = clamp-finite (i .finite) lo ∙ clamped-stays (inside-number h) one-number (h .between .to) (inside-number i) (i .between)
 
+-- what is under the floor gives the floor
+pub clamp-under : (x lo : Float) → lt x lo ≡ true → floorClamp x lo ≡ lo
+unfolding floorClamp clamped
+clamp-under x lo e = by-test (λ m. m ≡ lo) (finite x) (λ g. rw e) (λ g. refl)
+
 -- and the order of finite numbers is kept (+infinity gives the floor, so that of all numbers is not)
 pub clamp-order : {x y lo : Float} → Floor lo → Finite binary32 x → Finite binary32 y → le x y ≡ true → le (floorClamp x lo) (floorClamp y lo) ≡ true
 clamp-order {lo} h hx hy o =
     rw (clamp-finite hx lo, clamp-finite hy lo) (clamped-order (inside-number h) one-number (h .between .to) (finite-number hx) (finite-number hy) o)
+
+-- ---- 001's clamp
+
+-- it lies in 0..1, whatever was clamped
+pub unit-clamp-between : (x : Float) → T (fits binary32 x) → Between 0f 1f (unitClamp x)
+unfolding unitClamp
+unit-clamp-between x fx =
+    by-test (Between 0f 1f) (isNan x)
+    (λ e. zero-floor .between)
+    (λ e. clamped-between zero-number one-number (zero-floor .between .to) (record { fits = fx; number = rw e tt }))
 
 -- ---- what the mixes make of a command first
 

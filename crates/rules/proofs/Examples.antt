@@ -1,7 +1,8 @@
--- The promises of `fitting` can be met, in each of the three mixes that make one: two commands to the quad fit. One has sums that are no f32, so that they
--- have to be rounded; the other has sums at both ends of the range. Assumes nothing.
+-- The promises that ask something of a command can be met. Those of `fitting`, in each of the three mixes that make one: two commands to the quad fit. One
+-- has sums that are no f32, so that they have to be rounded; the other has sums at both ends of the range. That of `quadX`: a third command has no raw sum of
+-- +infinity, and yet one that treating changes, and one over 1, so that all are lowered. Assumes nothing.
 use mathlib.Core.Path.{_≡_, refl, sym, _∙_, subst}
-use mathlib.Core.Bool.{Bool, true, not, _&&_}
+use mathlib.Core.Bool.{Bool, true, false, not, _&&_}
 use mathlib.Core.List.{List, [], _∷_}
 use Prim.Native.Nat.{ℕ}
 use lib.Dec.{T, T-not}
@@ -9,7 +10,7 @@ use lib.Pow.{pow-pos}
 use lib.IntN.{ℤ}
 use lib.Signed.{leZ, ≤ℤ-refl}
 use lib.ListN.{getD}
-use lib.Ieee.{Float, binary32, fits, add, mul, lt, neg, ofBits}
+use lib.Ieee.{Float, nan, inf, binary32, fits, add, mul, lt, neg, ofBits}
 use lib.Ieee.Fits.{and-i, and-l, and-r}
 use lib.Ieee.Scale.{finite}
 use Rattle.binary32.specs.Arithmetic.{_+f_, 0f, 1f}
@@ -22,8 +23,10 @@ use Rattle.binary32.proofs.Exact.{eq-exact, rounding-own, add-exact}
 use Rattle.number.specs.Treat.{treated, clamped, limited}
 use Rattle.rules.specs.Rows.{Row, quadRows}
 use Rattle.rules.specs.Command.{roll, pitch, yaw, lifted, collective, delta, deltas}
+use Rattle.rules.specs.Extremes.{larger, walked, best, largest}
+use Rattle.rules.specs.Plain.{rawSum, rawSums}
 use Rattle.rules.specs.Priority.{yawGroup, rollPitchGroup}
-use Rattle.rules.specs.Promises.{Each, Fits, FitsBothOrders}
+use Rattle.rules.specs.Promises.{Each, Fits, FitsBothOrders, NotInfinity}
 use Rattle.rules.proofs.Lists.{each-map}
 
 -- ---- the commands, a table of bit patterns
@@ -203,3 +206,26 @@ no-number-passes s t =
 are-rounded : Each NoNumber (sumsAt between-numbers M4)
 unfolding allTrue roundedTest numberTest differTest sumsAt M4 between-numbers fits add mul neg lt ofBits exactSum wholeOf over under negative magnitude treated clamped limited lifted quadRows delta yawGroup rollPitchGroup
 are-rounded = each-passes NoNumber roundedTest no-number-passes (sumsAt between-numbers M4) tt
+
+-- ---- the third command meets what `quadX` asks
+
+-- roll 2 ^ 127, yaw 4, thrust -2 ^ 127; this mix has no floor
+to-minus-infinity : Command
+to-minus-infinity = record { rollBits = 0x7f00_0000; yawBits = 0x4080_0000; thrustBits = 0xff00_0000; floorBits = 0 }
+
+abbrev sums : List Float
+sums = rawSums quadRows (torque to-minus-infinity) (thrust to-minus-infinity)
+
+-- what is under +infinity is not +infinity
+not-infinity : (x : Float) → T (lt x (inf false)) → NotInfinity x
+unfolding lt
+not-infinity x t e = subst (λ (z : Float). T (lt z (inf false))) e t
+
+no-infinity : Each NotInfinity sums
+unfolding allTrue to-minus-infinity rawSums rawSum quadRows treated add mul neg lt ofBits
+no-infinity = each-passes NotInfinity (λ x. lt x (inf false)) not-infinity sums tt
+
+-- the first raw sum is -infinity, and the largest is over 1
+treated-and-lowered : (getD sums 0 nan ≡ inf true) × (lt 1f (largest sums) ≡ true)
+unfolding to-minus-infinity rawSums rawSum quadRows treated larger walked best add mul neg lt ofBits
+treated-and-lowered = (refl, refl)

@@ -12,13 +12,15 @@ use Rattle.rules.specs.ThrustFloor.{thrustFloorScale, thrustFloorMotors}
 use Rattle.rules.specs.Priority.{priorityMotors}
 use Rattle.rules.specs.Airmode.{airmodeMotors}
 use Rattle.rules.specs.RotorOut.{rotorOutMotors}
-use Rattle.rules.specs.Promises.{PlainKeeps, ThrustFloorKeeps, PriorityKeeps, AirmodeKeeps, RotorOutKeeps}
-use Rattle.rules.proofs.Bounded.{plain-unit, thrust-floor-clamped, thrust-floor-scaled, priority-clamped, airmode-clamped, without-keeps, tilt-keeps}
+use Rattle.rules.specs.Frame.{frameMotors}
+use Rattle.rules.specs.Promises.{PlainKeeps, ThrustFloorKeeps, PriorityKeeps, AirmodeKeeps, RotorOutKeeps, FrameKeeps}
+use Rattle.rules.proofs.Bounded.{plain-unit, frame-unit, thrust-floor-clamped, thrust-floor-scaled, priority-clamped, airmode-clamped, without-keeps, tilt-keeps}
 use Rattle.rules.proofs.Ordered.{thrust-floor-ordered}
 use Rattle.rules.proofs.ThrustFloorFitting.{thrust-floor-fitting}
 use Rattle.rules.proofs.PriorityFitting.{priority-fitting}
 use Rattle.rules.proofs.AirmodeFitting.{airmode-fitting}
 use Rattle.rules.proofs.Plain.{plain-no-nan, plain-overflowed, plain-attained, plain-to-one}
+use Rattle.rules.proofs.QuadX.{quad-x-agrees}
 
 -- the plain mix, of the quad; the torque's numbers are f32s, and so is the thrust
 pub plain-keeps : (torque : List Float) (thrust : Float) → ((k : ℕ) → T (fits binary32 (getD torque k nan))) → T (fits binary32 thrust)
@@ -37,6 +39,14 @@ pub rotor-out-keeps : (failed : ℕ) (torque : List Float) (thrust floor : Float
 unfolding rotorOutMotors
 rotor-out-keeps failed torque thrust floor ff =
     by-test (RotorOutKeeps failed floor) (ltb failed 4) (λ e. without-keeps failed floor _ _ ff) (λ e. tilt-keeps failed floor _ _ _ ff (ltb-false failed 4 e))
+
+-- the mix of any frame, `MixerN`'s; the torque's numbers are f32s, and so is the thrust
+pub frame-keeps : (rows : List Row) (torque : List Float) (thrust : Float) → ((k : ℕ) → T (fits binary32 (getD torque k nan))) → T (fits binary32 thrust)
+    → FrameKeeps rows torque thrust (frameMotors rows torque thrust)
+frame-keeps rows torque thrust fs ft = record {
+  unit = frame-unit rows torque thrust;
+  quadX = λ e h. rw e (quad-x-agrees torque thrust fs ft h);
+}
 
 -- the mixes of any frame; the thrust and the floor are f32s
 module _ (rows : List Row) (torque : List Float) (thrust floor : Float) (ft : T (fits binary32 thrust)) (ff : T (fits binary32 floor)) where

@@ -1,7 +1,13 @@
--- From the general to the particular: lists, clamping and the extremes; then what each mix promises (`specs/Promises.antt`), a file a promise; `Keeps` has each
--- mix's promises whole, `Examples` shows that they can be met, and `Figures` has the starred bench figures.
+-- From the general to the particular: lists, runs and sums; what the walk of the code knows of an array, and what it is for a contract to determine an answer;
+-- clamping and the extremes; then what each mix promises (`specs/Promises.antt`), a file a promise; `Keeps` has each mix's promises whole, `Examples` shows that
+-- they can be met, and `Figures` has the starred bench figures.
 pub mod Lists
+pub mod Runs
+pub mod Rows
+pub mod Sums
 pub mod Four
+pub mod Held
+pub mod Determined
 pub mod Clamp
 pub mod Extremes
 pub mod Bounded
@@ -11,6 +17,7 @@ pub mod ThrustFloorFitting
 pub mod PriorityFitting
 pub mod AirmodeFitting
 pub mod Plain
+pub mod QuadX
 pub mod Keeps
 pub mod Examples
 pub mod Figures

@@ -1,12 +1,12 @@
--- Lists: what holds of each, through a map; what stands at a place of a list, and of a mapped one; and what holds of each two that two maps make of one.
--- Assumes nothing.
+-- Lists: what holds of each, through a map; what stands at a place of a list, and of a mapped one; the first part of a mapped list; and what holds of each
+-- two that two maps make of one. Assumes nothing.
 use mathlib.Core.Path.{_≡_, refl, ap₂}
 use mathlib.Core.Bool.{not}
-use mathlib.Core.List.{List, [], _∷_, map}
+use mathlib.Core.List.{List, [], _∷_, _++_, map}
 use Prim.Native.Nat.{ℕ, zero, suc, _<_}
 use native.Mathlib.Omega.{arith}
 use lib.Dec.{T}
-use lib.ListN.{length, getD}
+use lib.ListN.{length, getD, take}
 use lib.Ieee.{Float, nan, binary32, fits, isNan}
 use lib.Ieee.Fits.{nan-fits}
 use Rattle.fit.specs.Fit.{EachMotor}
@@ -51,6 +51,11 @@ module _ {A : Type 0} where
   map-at g d e [] i s = let no : ⊥ = omega arith in absurd no
   map-at g d e (a ∷ l) zero s = refl
   map-at g d e (a ∷ l) (suc i) s = map-at g d e l i (omega arith)
+
+  -- the first part of a mapped list is the first part, mapped
+  pub take-mapped : {B : Type 0} (g : A → B) (l m : List A) → take (length l) (map g (l ++ m)) ≡ map g l
+  take-mapped g [] m = refl
+  take-mapped g (a ∷ l) m = ap₂ _∷_ refl (take-mapped g l m)
 
   -- at every index stands a number that fits, a NaN past the end
   pub map-fits : (g : A → Float) → ((a : A) → T (fits binary32 (g a))) → (l : List A) (k : ℕ) → T (fits binary32 (getD (map g l) k nan))

@@ -2,7 +2,7 @@
 -- +infinity makes all four 0", and "A finite largest over 1 and up to 2^24 ends exactly at 1". The last two are of any list of raw sums. Assumes nothing.
 use mathlib.Core.Path.{_≡_, refl, sym, ap, _∙_, subst}
 use mathlib.Core.Bool.{true, false, not}
-use mathlib.Core.List.{List, [], _∷_, map, map-map}
+use mathlib.Core.List.{List, [], _∷_, map-map}
 use Prim.Native.Nat.{ℕ}
 use lib.Dec.{T}
 use lib.ListN.{getD}
@@ -19,7 +19,7 @@ use Rattle.number.specs.Treat.{treated, clamped, floorClamp}
 use Rattle.rules.specs.Rows.{Row, thrustOf, rollOf, pitchOf, yawOf, -1f, quadRows}
 use Rattle.rules.specs.Command.{roll, pitch, yaw}
 use Rattle.rules.specs.Extremes.{largest}
-use Rattle.rules.specs.Plain.{rawSum, rawSums, loweredBy, lowered, plainMotors}
+use Rattle.rules.specs.Plain.{rawSum, rawSums, loweredBy, lowered, lowerLimited, plainMotors}
 use Rattle.rules.specs.Promises.{Each, OneOf, 2^24}
 use Rattle.rules.proofs.Lists.{each-mapped, each-map, map-at, map-fits, number-place}
 use Rattle.rules.proofs.Clamp.{treated-finite}
@@ -80,8 +80,8 @@ lowered-by-infinity (inf false) = refl
 lowered-by-infinity (fin s m e) = refl
 
 -- of any raw sums, none a NaN
-pub lowered-overflowed : (xs : List Float) → Each NoNan xs → (i : ℕ) → getD xs i nan ≡ inf false → Each (λ m. m ≡ 0f) (map (λ x. floorClamp x 0f) (lowered xs))
-unfolding lowered
+pub lowered-overflowed : (xs : List Float) → Each NoNan xs → (i : ℕ) → getD xs i nan ≡ inf false → Each (λ m. m ≡ 0f) (lowerLimited xs)
+unfolding lowerLimited lowered
 lowered-overflowed xs w i e =
     rw (map-map (λ x. floorClamp x 0f) (loweredBy (largest xs)) xs, largest-infinite xs w i e)
     (each-mapped (λ m. m ≡ 0f) (λ x. floorClamp (loweredBy (inf false) x) 0f) lowered-by-infinity xs)
@@ -113,8 +113,8 @@ one-kept = refl
 
 -- of any raw sums that binary32 holds: each that is the largest
 pub lowered-to-one : (xs : List Float) → ((k : ℕ) → T (fits binary32 (getD xs k nan))) → lt 1f (largest xs) ≡ true → le (largest xs) 2^24 ≡ true
-    → (i : ℕ) → getD xs i nan ≡ largest xs → getD (map (λ x. floorClamp x 0f) (lowered xs)) i nan ≡ 1f
-unfolding lowered
+    → (i : ℕ) → getD xs i nan ≡ largest xs → getD (lowerLimited xs) i nan ≡ 1f
+unfolding lowerLimited lowered
 lowered-to-one xs hs l h i e =
     let most = largest xs in
     let held : T (fits binary32 most) = subst (λ (x : Float). T (fits binary32 x)) e (hs i) in

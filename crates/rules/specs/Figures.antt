@@ -2,14 +2,16 @@
 use mathlib.Core.Path.{_≡_}
 use mathlib.Core.List.{List, [], _∷_, _++_, map}
 use Prim.Native.Nat.{ℕ}
+use lib.ListN.{take}
 use lib.Ieee.{Float, binary32, neg, ofBits}
 use Rattle.binary32.specs.Arithmetic.{0f, 1f}
-use Rattle.rules.specs.Rows.{quadRows}
+use Rattle.rules.specs.Rows.{1/2, quadRows, quadXRows}
 use Rattle.rules.specs.Plain.{plainMotors}
 use Rattle.rules.specs.ThrustFloor.{thrustFloorScale, thrustFloorMotors}
 use Rattle.rules.specs.Priority.{priorityMotors}
 use Rattle.rules.specs.Airmode.{airmodeMotors}
 use Rattle.rules.specs.RotorOut.{rotorOutMotors}
+use Rattle.rules.specs.Frame.{frameMotors}
 use Rattle.rules.specs.Promises.{2^24}
 
 -- a line of the table: the figure's number, the rule's answer to its command, and the paper's
@@ -28,9 +30,6 @@ abbrev 1/8 : Float
 
 abbrev 1/4 : Float
 1/4 = ofBits binary32 0x3e80_0000
-
-abbrev 1/2 : Float
-1/2 = ofBits binary32 0x3f00_0000
 
 abbrev 5/8 : Float
 5/8 = ofBits binary32 0x3f20_0000
@@ -55,6 +54,7 @@ starred y =
     ∷ line 3 (plainMotors quadRows (0f ∷ 0f ∷ 0f ∷ []) 2^24) (1f ∷ 1f ∷ 1f ∷ 1f ∷ [])
     ∷ line 3 (plainMotors quadRows (0f ∷ 0f ∷ 0f ∷ []) 2^24+4) (0f ∷ 0f ∷ 0f ∷ 0f ∷ [])
     ∷ line 4 (plainMotors quadRows (neg 2^127 ∷ neg 1/4 ∷ neg 1/4 ∷ []) 2^127) (0f ∷ 0f ∷ 0f ∷ 0f ∷ [])
+    ∷ line 4 (take 4 (frameMotors quadXRows (neg 2^127 ∷ neg 1/4 ∷ neg 1/4 ∷ []) 2^127)) (0f ∷ 0f ∷ 1/2 ∷ 0f ∷ [])
     ∷ line 5 (motorsAndScale (1/8 ∷ 1/8 ∷ 0f ∷ []) 1/2 1/4) (1/2 ∷ 1/4 ∷ 1/2 ∷ 3/4 ∷ 1f ∷ [])
     ∷ line 6 (motorsAndScale (1/2 ∷ 0f ∷ 0f ∷ []) 1/2 1/4) (1/4 ∷ 1/4 ∷ 3/4 ∷ 3/4 ∷ 1/2 ∷ [])
     ∷ line 7 (motorsAndScale (1/2 ∷ 0f ∷ 0f ∷ []) (neg 0f) 0f) (0f ∷ 0f ∷ neg 0f ∷ neg 0f ∷ neg 0f ∷ [])

@@ -7,5 +7,8 @@ pub mod Priority
 pub mod Airmode
 pub mod RotorOut
 pub mod Torque
+pub mod Frame
+pub mod Multi
+pub mod Refusals
 pub mod Promises
 pub mod Figures

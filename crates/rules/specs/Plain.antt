@@ -23,5 +23,8 @@ unfoldable pub lowered : List Float → List Float
 lowered xs = map (loweredBy (largest xs)) xs
 
 -- "Then negative or non-finite gives 0, over 1 gives 1": a floor clamp at +0
+unfoldable pub lowerLimited : List Float → List Float
+lowerLimited xs = map (λ x. floorClamp x 0f) (lowered xs)
+
 unfoldable pub plainMotors : List Row → List Float → Float → List Float
-plainMotors rows torque thrust = map (λ x. floorClamp x 0f) (lowered (rawSums rows torque thrust))
+plainMotors rows torque thrust = lowerLimited (rawSums rows torque thrust)

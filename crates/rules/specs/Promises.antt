@@ -5,17 +5,17 @@ use mathlib.Core.Bool.{true, false, not}
 use mathlib.Core.List.{List, [], _∷_, map}
 use Prim.Native.Nat.{ℕ, _<_}
 use lib.Dec.{T}
-use lib.ListN.{getD}
+use lib.ListN.{getD, take}
 use lib.Ieee.{Float, nan, inf, binary32, lt, le, eq, isNan, ofBits}
 use Rattle.binary32.specs.Arithmetic.{_+f_, 0f, 1f}
 use Rattle.binary32.specs.Rounding.{rounding}
 use Rattle.binary32.specs.Range.{Between, exactSum, SumWithin}
 use Rattle.number.specs.Treat.{limited}
 use Rattle.fit.specs.Fit.{EachMotor}
-use Rattle.rules.specs.Rows.{Row, quadRows}
+use Rattle.rules.specs.Rows.{Row, quadRows, quadXRows}
 use Rattle.rules.specs.Command.{roll, pitch, yaw, collective, deltas}
 use Rattle.rules.specs.Extremes.{largest}
-use Rattle.rules.specs.Plain.{rawSums}
+use Rattle.rules.specs.Plain.{rawSums, plainMotors}
 use Rattle.rules.specs.Priority.{yawGroup, rollPitchGroup}
 
 -- ---- the words
@@ -80,6 +80,19 @@ pub record RotorOutKeeps (failed : ℕ) (floor : Float) (motors : List Float) : 
   -- every other one of the four is bounded: all four where the rotor number is 4 or more
   pub healthy : (i : ℕ) → i < 4 → (i ≡ failed → ⊥) → Between (limited floor) 1f (getD motors i nan)
   pub unit : InUnit motors
+
+-- x is not +infinity
+abbrev pub NotInfinity : Float → Type 0
+NotInfinity x = x ≡ inf false → ⊥
+
+-- of any frame, `MixerN`'s: document 01's claims in 'Any airframe'
+pub record FrameKeeps (rows : List Row) (torque : List Float) (thrust : Float) (motors : List Float) : Type 0 where
+  -- "All results are in 0..1 for every matrix bit pattern."
+  pub unit : InUnit motors
+  -- "`quad_x` agrees in its first four, by bits, with plain whenever no raw sum of plain is +infinity."
+  pub quadX : rows ≡ quadXRows
+      → Each NotInfinity (rawSums quadRows torque thrust)
+      → take 4 motors ≡ plainMotors quadRows torque thrust
 
 -- x is one of xs
 pub record OneOf (xs : List Float) (x : Float) : Type 0 where

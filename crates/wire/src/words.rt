@@ -1,13 +1,13 @@
-// Runs of eight words.
+// Runs of 128 words.
 ghost use mathlib.Core.Path.{_≡_};
 ghost use Rattle.wire.specs.Words.{agree};
 
 // How many words a run has.
-pub const WORDS: usize = 8;
+pub const WORDS: usize = 128;
 
 // Whether all words agree.
 pub fn same(a: &[u32; WORDS], b: &[u32; WORDS]) -> bool
-    ensures { λ r. ⌜ r ≡ agree 8 (now (a .entry)) (now (b .entry)) ⌝ }
+    ensures { λ r. ⌜ r ≡ agree 128 (now (a .entry)) (now (b .entry)) ⌝ }
 {
     let mut i = 0;
     while i < WORDS {

@@ -16,7 +16,8 @@ use Rattle.airmode.proofs.shifted.Tie as tie
 returns : tie.Need-returns
 unfolding shifted
 returns c =
-    let args = c .before .before .before .before .before .before .before .args in
+    let at-shift = c .before .before .before .before in
+    let args = at-shift .before .before .before .before .before .args in
     let idle = args .idle in
     let m = args .t2 in
     let length : length m ≡ 4 = omega arith in
@@ -25,16 +26,18 @@ returns c =
       c .before .clamp-floor3 .ensures,
       c .before .before .clamp-floor2 .ensures,
       c .before .before .before .clamp-floor .ensures,
-      c .before .before .before .before .shift .ensures,
-      c .before .before .before .before .before .largest .ensures,
-      c .before .before .before .before .before .before .least .ensures,
+      at-shift .shift .ensures,
+      at-shift .before .largest .ensures,
+      at-shift .before .before .before .least .ensures,
     ) (ap (map (λ (x : Float). floorClamp (x +f shift idle (least m) (largest m)) idle)) (sym (four m length)))
 
 pub shifted-spec : {M : Type 1} → statement M
 shifted-spec =
     tie.close
     (tie.spec
+    (λ c. search needs)
     (λ c κs. search needs)
+    (λ c. search needs)
     (λ c κs. search needs)
     (λ c κs. search needs)
     (λ c. search needs)

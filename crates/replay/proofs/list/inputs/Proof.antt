@@ -1,4 +1,4 @@
--- `replay::list::inputs` is safe and ends: the loop counts the sixteen words. Assumes nothing.
+-- `replay::list::inputs` is safe and ends: the loop counts the words. Assumes nothing.
 use Prim.Native.Nat.{_≤_, _-_}
 use mathlib.Core.Path.{_≡_}
 use lib.ListN.{length, length-set}
@@ -8,10 +8,10 @@ use Rattle.replay.proofs.list.inputs.Statement.{statement}
 use Rattle.replay.proofs.list.inputs.Tie as tie
 
 abbrev Inv-loop : tie.InvT-loop
-Inv-loop «record» x₀ i₀ x i = (i ≤ 16) × (length x ≡ 16)
+Inv-loop «record» x₀ i₀ x i = (i ≤ 260) × (length x ≡ 260)
 
 abbrev μ-loop : tie.MeasureT-loop
-μ-loop «record» x₀ i₀ x i = 16 - i
+μ-loop «record» x₀ i₀ x i = 260 - i
 
 loop-again : tie.Need-loop-again Inv-loop μ-loop
 loop-again c = simp length-set (omega arith)
@@ -25,6 +25,8 @@ inputs-spec =
     (λ c. search needs)
     (λ c. search needs)
     (λ c. search needs)
+    (λ c. search needs)
+    (λ c. search needs)
     (λ c κs. search needs)
     (λ c κs. search needs)
     (λ c. search needs)
@@ -32,4 +34,5 @@ inputs-spec =
     (λ c. search needs)
     (λ c. search needs)
     loop-again
+    (λ c. search needs)
     (λ c. search needs))

@@ -1,4 +1,4 @@
--- `replay::list::words_from` is safe and ends: the loop counts the eight words. Assumes nothing.
+-- `replay::list::words_from` is safe and ends: the loop counts the words. Assumes nothing.
 use Prim.Native.Nat.{_≤_, _-_}
 use mathlib.Core.Path.{_≡_}
 use lib.ListN.{length, length-set}
@@ -8,10 +8,10 @@ use Rattle.replay.proofs.list.words_from.Statement.{statement}
 use Rattle.replay.proofs.list.words_from.Tie as tie
 
 abbrev Inv-loop : tie.InvT-loop
-Inv-loop «record» from words₀ i₀ words i = (i ≤ 8) × (length words ≡ 8)
+Inv-loop «record» from words₀ i₀ words i = (i ≤ 128) × (length words ≡ 128)
 
 abbrev μ-loop : tie.MeasureT-loop
-μ-loop «record» from words₀ i₀ words i = 8 - i
+μ-loop «record» from words₀ i₀ words i = 128 - i
 
 loop-again : tie.Need-loop-again Inv-loop μ-loop
 loop-again c = simp length-set (omega arith)
@@ -25,10 +25,13 @@ words-from-spec =
     (λ c. search needs)
     (λ c. search needs)
     (λ c. search needs)
+    (λ c. search needs)
+    (λ c. search needs)
     (λ c κs. search needs)
     (λ c. search needs)
     (λ c. search needs)
     (λ c. search needs)
     (λ c. search needs)
     loop-again
+    (λ c. search needs)
     (λ c. search needs))

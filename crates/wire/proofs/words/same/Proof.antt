@@ -10,10 +10,10 @@ use Rattle.wire.proofs.words.same.Statement.{statement}
 use Rattle.wire.proofs.words.same.Tie as tie
 
 abbrev Inv-loop : tie.InvT-loop
-Inv-loop a b i₀ i = (i ≤ 8) × (agree i a b ≡ true)
+Inv-loop a b i₀ i = (i ≤ 128) × (agree i a b ≡ true)
 
 abbrev μ-loop : tie.MeasureT-loop
-μ-loop a b i₀ i = 8 - i
+μ-loop a b i₀ i = 128 - i
 
 loop-holds : tie.Need-loop-holds Inv-loop μ-loop
 unfolding agree
@@ -23,7 +23,7 @@ returns : tie.Need-returns Inv-loop μ-loop
 returns c =
     let at-loop = c .before .before .before .before in
     let args = at-loop .before .args in
-    sym (agree-differs (args .a .now) (args .b .now) (at-loop .loop .i) 8 (omega arith) (c .if1 .taken))
+    sym (agree-differs (args .a .now) (args .b .now) (at-loop .loop .i) 128 (omega arith) (c .if1 .taken))
 
 loop-again : tie.Need-loop-again Inv-loop μ-loop
 loop-again c =
@@ -36,7 +36,7 @@ returns-2 : tie.Need-returns-2 Inv-loop μ-loop
 returns-2 c =
     let at-loop = c .before in
     let args = at-loop .before .args in
-    let end : at-loop .loop .i ≡ 8 = omega arith in
+    let end : at-loop .loop .i ≡ 128 = omega arith in
     sym (ap (λ (k : ℕ). agree k (args .a .now) (args .b .now)) (sym end) ∙ at-loop .loop .inv .1)
 
 pub same-spec : {M : Type 1} → statement M

@@ -1,0 +1,2 @@
+-- That each public contract determines its answer.
+pub mod Determined

@@ -1,0 +1,24 @@
+-- What `mix` answers, put together from what the rule of refusal says and what the outputs are then. Assumes nothing.
+use mathlib.Core.Path.{_≡_}
+use mathlib.Core.Bool.{true, false}
+use mathlib.Core.List.{List}
+use native.Mathlib.Omega.{arith}
+use lib.ListN.{length}
+use lib.Ieee.{Float}
+use Rattle.rules.specs.Rows.{Row, rowsOf}
+use Rattle.rules.specs.Multi.{rowsRefused}
+use Rattle.rules.proofs.Bounded.{wrench-unit}
+use Rattle.multi.specs.declared.Wrench.{Wrench}
+use Rattle.multi.specs.declared.Answer.the-variants.{Mixed as mixed, Refused as refused}
+use Rattle.multi.specs.Wrench.{motorsOf, Allocated, Mixed}
+
+-- the motors of a wrench lie in 0..1
+pub allocated : {rows : List Row} {w : Wrench} {motors : List Float} → motors ≡ motorsOf w rows → Allocated rows w motors
+allocated {rows} {w} e = record { is = e; unit = rw e (wrench-unit rows (w .thrust) (w .roll) (w .pitch) (w .yaw)) }
+
+module _ {run : List Float} {w : Wrench} {before : List Float} where
+  pub answer-refused : rowsRefused (length run) (length before) ≡ true → Mixed run w before refused before
+  answer-refused e = record { number = rw e; output = rw e; unit = λ n. let no : ⊥ = omega arith in absurd no }
+
+  pub answer-mixed : {after : List Float} → rowsRefused (length run) (length before) ≡ false → after ≡ motorsOf w (rowsOf run) → Mixed run w before mixed after
+  answer-mixed e is = record { number = rw e; output = rw e is; unit = λ n. allocated is .unit }

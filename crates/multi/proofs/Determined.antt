@@ -1,0 +1,46 @@
+-- Each public contract determines its answer, and that of `mix` the lent outputs too: two results that satisfy it are one, by bits. A contract of this crate
+-- either says what the answer equals, or is `Allocated` or `Mixed`, which do in `is`, `number` and `output`. Assumes nothing.
+use mathlib.Core.Path.{_≡_, refl}
+use mathlib.Core.List.{List}
+use native.Mathlib.Omega.{arith}
+use lib.Ieee.{Float}
+use Rattle.number.specs.Treat.{unitClamp}
+use Rattle.rules.specs.Rows.{Row, runOf, hexRows, octoRows}
+use Rattle.rules.proofs.Determined.{Determined, equal-determined}
+use Rattle.multi.specs.declared.Wrench.{Wrench}
+use Rattle.multi.specs.declared.Answer.{Answer}
+use Rattle.multi.specs.declared.Answer.the-variants.{Mixed as mixed, Refused as refused}
+use Rattle.multi.specs.Wrench.{numberOf, Allocated, Mixed}
+
+allocated-determined : {rows : List Row} {w : Wrench} → Determined (Allocated rows w)
+allocated-determined r q h k = equal-determined r q (h .is) (k .is)
+
+-- the paper's number tells the cases of the answer apart
+number-tells : (a b : Answer) → numberOf a ≡ numberOf b → a ≡ b
+number-tells mixed mixed e = refl
+number-tells refused refused e = refl
+number-tells mixed refused e = let no : ⊥ = omega arith in absurd no
+number-tells refused mixed e = let no : ⊥ = omega arith in absurd no
+
+-- ---- the public functions
+
+module _ (x : Float) (run before : List Float) (w : Wrench) where
+  pub clamp01-determined : Determined (λ r. r ≡ unitClamp x)
+  clamp01-determined = equal-determined
+
+  -- the answer, and what the outputs are afterwards
+  pub mix-determined : (a b : Answer) (after other : List Float) → Mixed run w before a after → Mixed run w before b other → (a ≡ b) × (after ≡ other)
+  mix-determined a b after other h k =
+      (number-tells a b (equal-determined _ _ (h .number) (k .number)), equal-determined after other (h .output) (k .output))
+
+  pub hex-x-determined : Determined (λ r. r ≡ runOf hexRows)
+  hex-x-determined = equal-determined
+
+  pub octo-coax-determined : Determined (λ r. r ≡ runOf octoRows)
+  octo-coax-determined = equal-determined
+
+  pub mix-hex-x-determined : Determined (Allocated hexRows w)
+  mix-hex-x-determined = allocated-determined
+
+  pub mix-octo-coax-determined : Determined (Allocated octoRows w)
+  mix-octo-coax-determined = allocated-determined

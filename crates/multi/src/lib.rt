@@ -1,0 +1,94 @@
+// Frames of any rows: a wrench in, a command for each rotor out, each clamped to 0..1 by itself.
+//
+// Follows relay-mix-multi (Apache-2.0, see NOTICE); changed: written in Rattle with contracts; rows and outputs are lent, up to 64 of them, in the place of a
+// const generic struct that holds them, and are checked where they are used.
+pub mod tables;
+
+ghost use mathlib.Core.Path.{_≡_};
+ghost use Prim.Native.Nat.{_*_};
+ghost use lib.ListN.{length};
+ghost use Rattle.number.specs.Treat.{unitClamp};
+ghost use Rattle.rules.specs.Rows.{rowsOf, hexRows, octoRows};
+ghost use Rattle.rules.specs.Multi.{rowsRefused};
+ghost use Rattle.multi.specs.Wrench.{motorsOf, Mixed, Allocated};
+use crate::tables::hex_x;
+use crate::tables::octo_coax;
+use rotors::command::raw_sum;
+use rotors::rows::row_at;
+
+// What is asked of a frame: a collective thrust, and a torque about each axis.
+#[repr(C)]
+pub struct Wrench {
+    pub thrust: f32,
+    pub roll: f32,
+    pub pitch: f32,
+    pub yaw: f32,
+}
+
+// What `mix` answers.
+pub enum Answer {
+    Mixed,
+    Refused,
+}
+
+// How many outputs a frame may have.
+pub const MAX_OUTPUTS: usize = 64;
+
+// x held to 0..1; a NaN becomes +0, and +infinity 1.
+pub fn clamp01(x: f32) -> f32
+    ensures { λ r. ⌜ r ≡ unitClamp x ⌝ }
+{
+    number::clamp01(x)
+}
+
+// Whether so many floats are not the rows of so many outputs.
+fn refused(floats: usize, outputs: usize) -> bool
+    ensures { λ r. ⌜ r ≡ rowsRefused floats outputs ⌝ }
+{
+    outputs > MAX_OUTPUTS || floats != 4 * outputs
+}
+
+// Each output from its row.
+fn allocate(rows: &[f32], w: Wrench, out: &mut [f32])
+    requires { ⌜ length (now rows) ≡ 4 * length (now out) ⌝ }
+    ensures { λ _. ⌜ now (out .exit) ≡ motorsOf w (rowsOf (now (rows .entry))) ⌝ }
+{
+    let mut i = 0;
+    while i < out.len() {
+        let row = row_at(rows, i);
+        out[i] = clamp01(raw_sum(row, w.thrust, w.roll, w.pitch, w.yaw));
+        i += 1;
+    }
+}
+
+// A wrench to the commands of the rotors, by their rows: one run of floats, four (thrust, roll, pitch, yaw) for each output. Where that is not what is lent, or
+// there are over 64 outputs, it is refused, and the outputs stay as they are.
+pub fn mix(rows: &[f32], w: Wrench, out: &mut [f32]) -> Answer
+    ensures { λ a. ⌜ Mixed (now (rows .entry)) w (now (out .entry)) a (now (out .exit)) ⌝ }
+{
+    if refused(rows.len(), out.len()) {
+        return Answer::Refused;
+    }
+    allocate(rows, w, out);
+    Answer::Mixed
+}
+
+// `hex_x`'s mix: its six rotors.
+pub fn mix_hex_x(w: Wrench) -> [f32; 6]
+    ensures { λ m. ⌜ Allocated hexRows w m ⌝ }
+{
+    let rows = hex_x();
+    let mut out = [0.0; 6];
+    allocate(&rows, w, &mut out);
+    out
+}
+
+// `octo_coax`'s mix: its eight rotors.
+pub fn mix_octo_coax(w: Wrench) -> [f32; 8]
+    ensures { λ m. ⌜ Allocated octoRows w m ⌝ }
+{
+    let rows = octo_coax();
+    let mut out = [0.0; 8];
+    allocate(&rows, w, &mut out);
+    out
+}

@@ -1,0 +1,94 @@
+-- Runs of numbers: the rows that a run holds, found by their place; and a run that a loop fills from the front. Assumes nothing.
+use mathlib.Core.Path.{_≡_, refl, sym, ap, _∙_}
+use mathlib.Core.List.{List, [], _∷_, _++_, map, append-nil}
+use Prim.Native.Nat.{ℕ, zero, suc, _+_, _*_, _≤_, _<_}
+use native.Mathlib.Numerals.{add-one}
+use native.Mathlib.Omega.{arith}
+use lib.ListN.{length, getD, take, drop, set, drop-of-length-le, length-map}
+use lib.Seq.{take-suc, drop-cons, append-snoc, set-at, getD-at, length-take-le, take-all}
+use lib.Ieee.{Float, nan}
+use Rattle.rules.specs.Rows.{Row, rowsOf, noRow, rowAt}
+use Rattle.rules.proofs.Lists.{map-at}
+
+-- ---- the rows of a run
+
+-- past the first four numbers of a run
+past-four : (t r p y : Float) (run : List Float) (n m : ℕ) → n ≡ 4 + m → getD (t ∷ r ∷ p ∷ y ∷ run) n nan ≡ getD run m nan
+past-four t r p y run n m e = let e′ : n ≡ suc (suc (suc (suc m))) = omega arith in rw e′
+
+-- the row at a place is the four numbers that stand there
+pub row-at : (run : List Float) (i : ℕ) → 4 * i + 3 < length run
+    → rowAt run i ≡ getD run (4 * i) nan ∷ getD run (4 * i + 1) nan ∷ getD run (4 * i + 2) nan ∷ getD run (4 * i + 3) nan ∷ []
+unfolding rowAt rowsOf
+row-at (t ∷ r ∷ p ∷ y ∷ run) zero h = refl
+row-at (t ∷ r ∷ p ∷ y ∷ run) (suc i) h =
+    rw (
+      past-four t r p y run (4 * suc i) (4 * i) (omega arith),
+      past-four t r p y run (4 * suc i + 1) (4 * i + 1) (omega arith),
+      past-four t r p y run (4 * suc i + 2) (4 * i + 2) (omega arith),
+      past-four t r p y run (4 * suc i + 3) (4 * i + 3) (omega arith),
+    )
+    (row-at run i (omega arith))
+row-at (t ∷ r ∷ p ∷ []) i h = let no : ⊥ = omega arith in absurd no
+row-at (t ∷ r ∷ []) i h = let no : ⊥ = omega arith in absurd no
+row-at (t ∷ []) i h = let no : ⊥ = omega arith in absurd no
+row-at [] i h = let no : ⊥ = omega arith in absurd no
+
+-- past the last whole row there is none
+pub row-past : (run : List Float) (i : ℕ) → length run < 4 * i + 4 → rowAt run i ≡ noRow
+unfolding rowAt rowsOf
+row-past (t ∷ r ∷ p ∷ y ∷ run) zero h = let no : ⊥ = omega arith in absurd no
+row-past (t ∷ r ∷ p ∷ y ∷ run) (suc i) h = row-past run i (omega arith)
+row-past (t ∷ r ∷ p ∷ []) i h = refl
+row-past (t ∷ r ∷ []) i h = refl
+row-past (t ∷ []) i h = refl
+row-past [] i h = refl
+
+-- a run of four for each of n rotors holds n rows
+pub rows-count : (n : ℕ) (run : List Float) → length run ≡ 4 * n → length (rowsOf run) ≡ n
+unfolding rowsOf
+rows-count zero [] h = refl
+rows-count (suc n) (t ∷ r ∷ p ∷ y ∷ run) h = ap suc (rows-count n run (omega arith))
+rows-count (suc n) (t ∷ r ∷ p ∷ []) h = let no : ⊥ = omega arith in absurd no
+rows-count (suc n) (t ∷ r ∷ []) h = let no : ⊥ = omega arith in absurd no
+rows-count (suc n) (t ∷ []) h = let no : ⊥ = omega arith in absurd no
+rows-count (suc n) [] h = let no : ⊥ = omega arith in absurd no
+rows-count zero (t ∷ run) h = let no : ⊥ = omega arith in absurd no
+
+-- what is made of each row of such a run: as many as there are rotors, each from the row at its place
+pub mapped-length : {A : Type 0} (g : Row → A) (n : ℕ) (run : List Float) → length run ≡ 4 * n → length (map g (rowsOf run)) ≡ n
+mapped-length g n run h = length-map (rowsOf run) g ∙ rows-count n run h
+
+pub mapped-at : {A : Type 0} (g : Row → A) (d : A) (n : ℕ) (run : List Float) (i : ℕ) → length run ≡ 4 * n → i < n
+    → getD (map g (rowsOf run)) i d ≡ g (rowAt run i)
+unfolding rowAt
+mapped-at g d n run i h s = map-at g noRow d (rowsOf run) i (rw (rows-count n run h) s)
+
+-- ---- a run that is being filled
+
+module _ {A : Type 0} where
+  -- n places of `before` filled from `after`, the others as they were
+  abbrev pub filled : List A → List A → ℕ → List A
+  filled before after n = take n after ++ drop n before
+
+  -- a turn of the loop that fills: what is stored is what belongs there
+  pub fill : (before after now : List A) (n : ℕ) (d : A) {a : A} → length after ≡ length before → n < length before
+      → now ≡ filled before after n → a ≡ getD after n d → set now n a ≡ filled before after (n + 1)
+  fill before after now n d same h is belongs =
+      let done : length (take n after) ≡ n = length-take-le n after (omega arith) in
+      rw (is, belongs, drop-cons before n d h)
+      (set-at (take n after) (getD before n d) (drop (suc n) before) (getD after n d) n done
+      ∙ sym (append-snoc (take n after) (getD after n d) (drop (suc n) before))
+      ∙ rw (add-one, take-suc after n d (omega arith)))
+
+  -- the next place is as it was
+  pub filled-at : (before after : List A) (n : ℕ) (d : A) → n < length before → n ≤ length after → getD (filled before after n) n d ≡ getD before n d
+  filled-at before after n d hb ha =
+      ap (λ (r : List A). getD (take n after ++ r) n d) (drop-cons before n d hb)
+      ∙ getD-at (take n after) (getD before n d) (drop (suc n) before) d n (length-take-le n after ha)
+
+  -- all places filled: nothing of before is left
+  pub filled-all : (before after : List A) (n : ℕ) → length before ≡ n → length after ≡ n → filled before after n ≡ after
+  filled-all before after n hb ha =
+      let nothing : length before ≤ n = omega arith in
+      rw (take-all n after (omega arith), drop-of-length-le before nothing) (append-nil after)

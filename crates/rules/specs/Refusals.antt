@@ -1,0 +1,10 @@
+-- The numbers of document 01's table of refusals. Definitions only; the quotations are document 01's.
+use Prim.Native.Nat.{ℕ}
+
+-- "accepted"
+abbrev pub accepted : ℕ
+accepted = 0
+
+-- "(lent rows) over 64 outputs, or rows not four for each output"
+abbrev pub badRows : ℕ
+badRows = 10
