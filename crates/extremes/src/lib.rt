@@ -2,7 +2,8 @@
 // contracts, as functions of their own over any count.
 use number::pick;
 ghost use mathlib.Core.Path.{_≡_};
-ghost use Rattle.rules.specs.Extremes.{larger, smaller, largest, least};
+ghost use mathlib.Core.Bool.{cond};
+ghost use Rattle.rules.specs.Extremes.{larger, smaller, best, largest, least};
 
 // x where it is strictly larger than the number held.
 fn larger(held: f32, x: f32) -> f32
@@ -18,9 +19,15 @@ fn smaller(held: f32, x: f32) -> f32
     pick(x < held, x, held)
 }
 
-// The largest, and of equal ones the first; +0 of none.
-pub fn largest(m: &[f32]) -> f32
-    ensures { λ r. ⌜ r ≡ largest (now (m .entry)) ⌝ }
+fn better(up: bool, held: f32, x: f32) -> f32
+    ensures { λ r. ⌜ r ≡ cond up (larger held x) (smaller held x) ⌝ }
+{
+    pick(up, larger(held, x), smaller(held, x))
+}
+
+// The largest where `up` is true, and else the least. Of equal ones it is the first, and of none +0.
+fn best(up: bool, m: &[f32]) -> f32
+    ensures { λ r. ⌜ r ≡ best (λ held x. cond up (larger held x) (smaller held x)) (now (m .entry)) ⌝ }
 {
     if m.len() == 0 {
         return 0.0;
@@ -28,24 +35,20 @@ pub fn largest(m: &[f32]) -> f32
     let mut held = m[0];
     let mut i = 1;
     while i < m.len() {
-        held = larger(held, m[i]);
+        held = better(up, held, m[i]);
         i += 1;
     }
     held
 }
 
-// The least, and of equal ones the first; +0 of none.
+pub fn largest(m: &[f32]) -> f32
+    ensures { λ r. ⌜ r ≡ largest (now (m .entry)) ⌝ }
+{
+    best(true, m)
+}
+
 pub fn least(m: &[f32]) -> f32
     ensures { λ r. ⌜ r ≡ least (now (m .entry)) ⌝ }
 {
-    if m.len() == 0 {
-        return 0.0;
-    }
-    let mut held = m[0];
-    let mut i = 1;
-    while i < m.len() {
-        held = smaller(held, m[i]);
-        i += 1;
-    }
-    held
+    best(false, m)
 }

@@ -10,7 +10,7 @@ use wire::bytes::read_u32;
 use wire::words::same;
 
 // How many bytes there is room for: more than a list has.
-pub const ROOM: usize = 1048576;
+pub const ROOM: usize = 524288;
 
 // How many of the differences are shown.
 const SHOWN: usize = 4;

@@ -1,10 +1,28 @@
--- A run that is not refused has four numbers for each output. Assumes nothing.
+-- Rows and runs of them. The runs of document 01's frames hold its rows, each by one computed test; and a run that is not refused has four numbers for each output.
+-- Assumes nothing.
 use mathlib.Core.Path.{_≡_, refl}
 use mathlib.Core.Bool.{Bool, true, false, not, _||_}
 use Prim.Native.Nat.{ℕ, _*_}
 use borrow.Author.Tests.{eqb-true}
 use lib.Dec.{ltb, eqb}
+use Rattle.rules.specs.Rows.{rowsOf, runOf, quadRows, quadXRows, hexRows, octoRows}
 use Rattle.rules.specs.Multi.{maxOutputs, rowsRefused}
+
+-- ---- the frames of document 01
+
+pub quad-x-rows : rowsOf (runOf quadXRows) ≡ quadXRows
+unfolding rowsOf runOf quadRows quadXRows
+quad-x-rows = refl
+
+pub hex-rows : rowsOf (runOf hexRows) ≡ hexRows
+unfolding rowsOf runOf hexRows
+hex-rows = refl
+
+pub octo-rows : rowsOf (runOf octoRows) ≡ octoRows
+unfolding rowsOf runOf octoRows
+octo-rows = refl
+
+-- ---- refusal 10
 
 -- where neither p holds nor the denial of q, q holds
 second-holds : (p q : Bool) → (p || not q) ≡ false → q ≡ true

@@ -55,15 +55,6 @@ rows-count (suc n) (t ∷ []) h = let no : ⊥ = omega arith in absurd no
 rows-count (suc n) [] h = let no : ⊥ = omega arith in absurd no
 rows-count zero (t ∷ run) h = let no : ⊥ = omega arith in absurd no
 
--- what is made of each row of such a run: as many as there are rotors, each from the row at its place
-pub mapped-length : {A : Type 0} (g : Row → A) (n : ℕ) (run : List Float) → length run ≡ 4 * n → length (map g (rowsOf run)) ≡ n
-mapped-length g n run h = length-map (rowsOf run) g ∙ rows-count n run h
-
-pub mapped-at : {A : Type 0} (g : Row → A) (d : A) (n : ℕ) (run : List Float) (i : ℕ) → length run ≡ 4 * n → i < n
-    → getD (map g (rowsOf run)) i d ≡ g (rowAt run i)
-unfolding rowAt
-mapped-at g d n run i h s = map-at g noRow d (rowsOf run) i (rw (rows-count n run h) s)
-
 -- ---- a run that is being filled
 
 module _ {A : Type 0} where
@@ -92,3 +83,21 @@ module _ {A : Type 0} where
   filled-all before after n hb ha =
       let nothing : length before ≤ n = omega arith in
       rw (take-all n after (omega arith), drop-of-length-le before nothing) (append-nil after)
+
+-- ---- a run that is being filled with what g makes of each row of another, which has four numbers for each place
+
+module _ {A : Type 0} (g : Row → A) (rows : List Float) (before : List A) (four-each : length rows ≡ 4 * length before) where
+  -- as many as there are places
+  made-length : length (map g (rowsOf rows)) ≡ length before
+  made-length = length-map (rowsOf rows) g ∙ rows-count (length before) rows four-each
+
+  -- a turn of the loop
+  pub fill-from-row : (now : List A) (i : ℕ) (d : A) {a : A} → i < length before → now ≡ filled before (map g (rowsOf rows)) i → a ≡ g (rowAt rows i)
+      → set now i a ≡ filled before (map g (rowsOf rows)) (i + 1)
+  unfolding rowAt
+  fill-from-row now i d h is belongs =
+      fill before (map g (rowsOf rows)) now i d made-length h is (belongs ∙ sym (map-at g noRow d (rowsOf rows) i (rw (rows-count (length before) rows four-each) h)))
+
+  -- the end of it
+  pub filled-from-rows : (i : ℕ) → length before ≡ i → filled before (map g (rowsOf rows)) i ≡ map g (rowsOf rows)
+  filled-from-rows i e = filled-all before (map g (rowsOf rows)) i e (made-length ∙ e)

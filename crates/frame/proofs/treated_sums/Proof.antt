@@ -8,26 +8,24 @@ use lib.Ieee.{Float, nan}
 use denote.Ref.{now}
 use borrow.Author.Needs.{needs, scaled-fits}
 use Rattle.number.specs.Treat.{treated}
-use Rattle.rules.specs.Rows.{rowsOf}
+use Rattle.rules.specs.Rows.{Row, rowsOf}
 use Rattle.rules.specs.Command.{roll, pitch, yaw}
 use Rattle.rules.specs.Plain.{rawSum, rawSums}
-use Rattle.rules.proofs.Runs.{mapped-length, mapped-at, filled, fill, filled-all}
+use Rattle.rules.proofs.Runs.{filled, fill-from-row, filled-from-rows}
 use Rattle.frame.proofs.treated_sums.Statement.{statement}
 use Rattle.frame.proofs.treated_sums.Tie as tie
 
--- ---- the rule, sum by sum
+-- one sum of the rule
+abbrev sumOf : Float → Float → Float → Float → Row → Float
+sumOf t r p y row = treated (rawSum t r p y row)
 
-abbrev sums : List Float → Float → Float → Float → Float → List Float
-sums run t r p y = map (λ row. treated (rawSum t r p y row)) (rowsOf run)
-
-rule-is : (run torque : List Float) (thrust : Float) → sums run (treated thrust) (roll torque) (pitch torque) (yaw torque) ≡ map treated (rawSums (rowsOf run) torque thrust)
+rule-is : (rows : List Row) (torque : List Float) (thrust : Float)
+    → map (sumOf (treated thrust) (roll torque) (pitch torque) (yaw torque)) rows ≡ map treated (rawSums rows torque thrust)
 unfolding rawSums
-rule-is run torque thrust = sym (map-map treated _ (rowsOf run))
-
--- ---- the loop
+rule-is rows torque thrust = sym (map-map treated _ rows)
 
 abbrev Inv-loop : tie.InvT-loop
-Inv-loop rows thrust m₀ t r p y i₀ m i = (i ≤ length m₀) × (length m ≡ length m₀) × (m ≡ filled m₀ (sums rows t r p y) i)
+Inv-loop rows thrust m₀ t r p y i₀ m i = (i ≤ length m₀) × (length m ≡ length m₀) × (m ≡ filled m₀ (map (sumOf t r p y) (rowsOf rows)) i)
 
 abbrev μ-loop : tie.MeasureT-loop
 μ-loop rows thrust m₀ t r p y i₀ m i = length m₀ - i
@@ -42,18 +40,15 @@ loop-again : tie.Need-loop-again Inv-loop μ-loop
 loop-again c =
     let at-loop = c .before .before .before .before in
     let start = at-loop .before .before .before .before .before .before .before in
-    let rows = now (start .args .rows) in
     let m₀ = now (start .args .m) in
     let m = at-loop .loop .m in
     let i = at-loop .loop .i in
     let inv = at-loop .loop .inv in
-    let four-each : length rows ≡ 4 * length m₀ = start .pre in
     let bound : i < length m₀ = omega arith in (
       omega arith,
       length-set m i _ ∙ inv .1,
-      fill m₀ _ m i nan (mapped-length _ (length m₀) rows four-each) bound (inv .2)
-          (c .sanitise5 .ensures
-          ∙ rw (c .before .raw-sum .ensures, c .before .before .row-at .ensures) (sym (mapped-at _ nan (length m₀) rows i four-each bound))),
+      fill-from-row _ (now (start .args .rows)) m₀ (start .pre) m i nan bound (inv .2)
+          (c .sanitise5 .ensures ∙ rw (c .before .raw-sum .ensures, c .before .before .row-at .ensures)),
     )
 
 returns : tie.Need-returns Inv-loop μ-loop
@@ -62,16 +57,14 @@ returns c =
     let sanitised = at-loop .before in
     let start = sanitised .before .before .before .before .before .before in
     let rows = now (start .args .rows) in
-    let m₀ = now (start .args .m) in
-    let all : length m₀ ≡ at-loop .loop .i = omega arith in
     at-loop .loop .inv .2
-    ∙ filled-all m₀ _ (at-loop .loop .i) all (mapped-length _ (length m₀) rows (start .pre) ∙ all)
+    ∙ filled-from-rows _ rows (now (start .args .m)) (start .pre) (at-loop .loop .i) (omega arith)
     ∙ rw (
       sanitised .sanitise4 .ensures,
       sanitised .before .sanitise3 .ensures,
       sanitised .before .before .sanitise2 .ensures,
       sanitised .before .before .before .sanitise .ensures,
-    ) (rule-is rows (start .args .t2) (start .args .thrust))
+    ) (rule-is (rowsOf rows) (start .args .t2) (start .args .thrust))
 
 pub treated-sums-spec : {M : Type 1} → statement M
 treated-sums-spec =

@@ -1,6 +1,6 @@
 -- `multi::allocate` meets its contract. The loop's invariant: the outputs up to i are filled with the rule's motors, and the others are as they were. Assumes nothing.
 use mathlib.Core.Path.{_≡_, refl, sym, _∙_}
-use mathlib.Core.List.{List}
+use mathlib.Core.List.{map}
 use Prim.Native.Nat.{ℕ, _*_, _-_, _≤_, _<_}
 use native.Mathlib.Omega.{arith}
 use lib.ListN.{length, getD, length-set}
@@ -8,30 +8,20 @@ use lib.Ieee.{Float, nan}
 use denote.Ref.{now}
 use borrow.Author.Needs.{needs, scaled-fits}
 use Rattle.number.specs.Treat.{unitClamp}
-use Rattle.rules.specs.Rows.{rowsOf, rowAt}
+use Rattle.rules.specs.Rows.{Row, rowsOf}
 use Rattle.rules.specs.Plain.{rawSum}
 use Rattle.rules.specs.Multi.{wrenchMotors}
-use Rattle.rules.proofs.Runs.{mapped-length, mapped-at, filled, fill, filled-all}
-use Rattle.multi.specs.Wrench.{motorsOf}
+use Rattle.rules.proofs.Runs.{filled, fill-from-row, filled-from-rows}
 use Rattle.multi.specs.declared.Wrench.{Wrench}
 use Rattle.multi.proofs.allocate.Statement.{statement}
 use Rattle.multi.proofs.allocate.Tie as tie
 
--- ---- the rule, motor by motor
-
-rule-length : (w : Wrench) (run : List Float) (n : ℕ) → length run ≡ 4 * n → length (motorsOf w (rowsOf run)) ≡ n
-unfolding wrenchMotors
-rule-length w run n h = mapped-length _ n run h
-
-rule-at : (w : Wrench) (run : List Float) (n i : ℕ) → length run ≡ 4 * n → i < n
-    → getD (motorsOf w (rowsOf run)) i nan ≡ unitClamp (rawSum (w .thrust) (w .roll) (w .pitch) (w .yaw) (rowAt run i))
-unfolding wrenchMotors
-rule-at w run n i h s = mapped-at _ nan n run i h s
-
--- ---- the loop
+-- one motor of the rule
+abbrev motorOf : Wrench → Row → Float
+motorOf w row = unitClamp (rawSum (w .thrust) (w .roll) (w .pitch) (w .yaw) row)
 
 abbrev Inv-loop : tie.InvT-loop
-Inv-loop rows w out₀ i₀ out i = (i ≤ length out₀) × (length out ≡ length out₀) × (out ≡ filled out₀ (motorsOf w (rowsOf rows)) i)
+Inv-loop rows w out₀ i₀ out i = (i ≤ length out₀) × (length out ≡ length out₀) × (out ≡ filled out₀ (map (motorOf w) (rowsOf rows)) i)
 
 abbrev μ-loop : tie.MeasureT-loop
 μ-loop rows w out₀ i₀ out i = length out₀ - i
@@ -52,23 +42,20 @@ loop-again c =
     let out = at-loop .loop .out in
     let i = at-loop .loop .i in
     let inv = at-loop .loop .inv in
-    let four-each : length rows ≡ 4 * length out₀ = start .pre in
     let bound : i < length out₀ = omega arith in (
       omega arith,
       length-set out i _ ∙ inv .1,
-      fill out₀ (motorsOf w (rowsOf rows)) out i nan (rule-length w rows (length out₀) four-each) bound (inv .2)
-          (c .clamp01 .ensures ∙ rw (c .before .raw-sum .ensures, c .before .before .row-at .ensures) (sym (rule-at w rows (length out₀) i four-each bound))),
+      fill-from-row (motorOf w) rows out₀ (start .pre) out i nan bound (inv .2)
+          (c .clamp01 .ensures ∙ rw (c .before .raw-sum .ensures, c .before .before .row-at .ensures)),
     )
 
 returns : tie.Need-returns Inv-loop μ-loop
+unfolding wrenchMotors
 returns c =
     let at-loop = c .before in
     let start = at-loop .before .before .before in
-    let rows = now (start .args .rows) in
-    let w = start .args .w in
     let out₀ = now (start .args .out) in
-    let all : length out₀ ≡ at-loop .loop .i = omega arith in
-    at-loop .loop .inv .2 ∙ filled-all out₀ (motorsOf w (rowsOf rows)) (at-loop .loop .i) all (rule-length w rows (length out₀) (start .pre) ∙ all)
+    at-loop .loop .inv .2 ∙ filled-from-rows (motorOf (start .args .w)) (now (start .args .rows)) out₀ (start .pre) (at-loop .loop .i) (omega arith)
 
 pub allocate-spec : {M : Type 1} → statement M
 allocate-spec =
