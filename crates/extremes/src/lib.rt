@@ -19,6 +19,7 @@ fn smaller(held: f32, x: f32) -> f32
     pick(x < held, x, held)
 }
 
+// A step of the walk: up to the largest, or down to the least.
 fn better(up: bool, held: f32, x: f32) -> f32
     ensures { λ r. ⌜ r ≡ cond up (larger held x) (smaller held x) ⌝ }
 {

@@ -1,3 +1,3 @@
-// What the quad's mixes share: the rows of its four rotors, and what they make of a command before any of them fits it to the motors.
+// What the mixes share: the rows of the quad's four rotors, how a row is taken from a run of them, and what is made of a command before a mix fits it to the motors.
 pub mod command;
 pub mod rows;

@@ -1,8 +1,8 @@
-// Rows: what thrust, roll, pitch and yaw each count for a motor. Here are the quad's, and how a row is taken from a run of them.
+// Rows: what thrust, roll, pitch and yaw each count for a motor.
 ghost use mathlib.Core.Path.{_≡_};
 ghost use Rattle.rules.specs.Rows.{rowAt};
 
-// The quad's rows: what thrust, roll, pitch and yaw each count for a motor. Follows relay-mix-quad's MIXER_X (Apache-2.0, see NOTICE); changed: written
+// The quad's rows. They follow relay-mix-quad's MIXER_X (Apache-2.0, see NOTICE); changed: written
 // in Rattle, with spins in words.
 pub const MIXER_X: [[f32; 4]; 4] = [
     [1.0, -1.0, 1.0, -1.0], // M1 front-right, clockwise

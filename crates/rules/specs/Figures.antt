@@ -46,7 +46,7 @@ abbrev 2^127 : Float
 abbrev line : ℕ → List Float → List Float → Figure
 line n a p = record { number = n; answer = a; paper = p }
 
--- the table, y being the yaw of figure 11, which may be anything
+-- the table, y being the yaw of figure 11, which may be anything; of `quad_x`'s eight motors the paper has the first four
 abbrev pub starred : Float → List Figure
 starred y =
     line 1 (plainMotors quadRows (1/4 ∷ 1/4 ∷ 0f ∷ []) 3/4) (1/2 ∷ 0f ∷ 1/2 ∷ 1f ∷ [])
