@@ -2,17 +2,17 @@
 //
 // Follows relay-mix-multi (Apache-2.0, see NOTICE); changed: written in Rattle with contracts; rows and outputs are lent, up to 64 of them, in the place of a
 // const generic struct that holds them, and are checked where they are used.
-pub mod tables;
+mod tables;
 
 ghost use mathlib.Core.Path.{_≡_};
 ghost use Prim.Native.Nat.{_*_};
 ghost use lib.ListN.{length};
 ghost use Rattle.number.specs.Treat.{unitClamp};
-ghost use Rattle.rules.specs.Rows.{rowsOf, hexRows, octoRows};
+ghost use Rattle.rules.specs.Rows.{rowsOf, runOf, hexRows, octoRows};
 ghost use Rattle.rules.specs.Multi.{rowsRefused};
 ghost use Rattle.multi.specs.Wrench.{motorsOf, Mixed, Allocated};
-use crate::tables::hex_x;
-use crate::tables::octo_coax;
+use crate::tables::HEX_X;
+use crate::tables::OCTO_COAX;
 use rotors::command::raw_sum;
 use rotors::rows::row_at;
 
@@ -73,7 +73,14 @@ pub fn mix(rows: &[f32], w: Wrench, out: &mut [f32]) -> Answer
     Answer::Mixed
 }
 
-// `hex_x`'s mix: its six rotors.
+// The rows of six rotors, 60 degrees apart, each spinning against its neighbours.
+pub fn hex_x() -> [f32; 24]
+    ensures { λ r. ⌜ r ≡ runOf hexRows ⌝ }
+{
+    HEX_X
+}
+
+// Their mix.
 pub fn mix_hex_x(w: Wrench) -> [f32; 6]
     ensures { λ m. ⌜ Allocated hexRows w m ⌝ }
 {
@@ -83,7 +90,14 @@ pub fn mix_hex_x(w: Wrench) -> [f32; 6]
     out
 }
 
-// `octo_coax`'s mix: its eight rotors.
+// The rows of four arms with two rotors each, one above the other, which spin against each other.
+pub fn octo_coax() -> [f32; 32]
+    ensures { λ r. ⌜ r ≡ runOf octoRows ⌝ }
+{
+    OCTO_COAX
+}
+
+// Their mix.
 pub fn mix_octo_coax(w: Wrench) -> [f32; 8]
     ensures { λ m. ⌜ Allocated octoRows w m ⌝ }
 {

@@ -1,23 +1,6 @@
-// The rows of two frames, each as one run: thrust, roll, pitch, yaw, rotor by rotor. They follow relay-mix-multi's `hex_x` and `octo_coax` (Apache-2.0, see NOTICE);
-// changed: written in Rattle with contracts, each table as one run.
-ghost use mathlib.Core.Path.{_≡_};
-ghost use Rattle.rules.specs.Rows.{runOf, hexRows, octoRows};
-
-// Six rotors, 60 degrees apart, spinning in turns.
-pub fn hex_x() -> [f32; 24]
-    ensures { λ r. ⌜ r ≡ runOf hexRows ⌝ }
-{
-    HEX_X
-}
-
-// Four arms with two rotors each, one above the other, which spin against each other.
-pub fn octo_coax() -> [f32; 32]
-    ensures { λ r. ⌜ r ≡ runOf octoRows ⌝ }
-{
-    OCTO_COAX
-}
-
-const HEX_X: [f32; 24] = [
+// The rows of two frames, each as one run: thrust, roll, pitch, yaw, rotor by rotor. They follow the tables of relay-mix-multi's `hex_x` and `octo_coax` (Apache-2.0, see
+// NOTICE); changed: written in Rattle, each as one run.
+pub const HEX_X: [f32; 24] = [
     1.0,
     -1.0,
     0.0,
@@ -44,7 +27,7 @@ const HEX_X: [f32; 24] = [
     1.0, // rotor 6
 ];
 
-const OCTO_COAX: [f32; 32] = [
+pub const OCTO_COAX: [f32; 32] = [
     1.0,
     -0.707,
     0.707,

@@ -50,14 +50,14 @@ pub extern "C" fn probe_multi_mix(rows: &[f32], w: &[f32; 4], out: &mut [f32]) -
 pub extern "C" fn probe_multi_hex_x(out: &mut [f32; 24])
     ensures { λ _. ⌜ now (out .exit) ≡ runOf hexRows ⌝ }
 {
-    *out = multi::tables::hex_x();
+    *out = multi::hex_x();
 }
 
 #[no_mangle]
 pub extern "C" fn probe_multi_octo_coax(out: &mut [f32; 32])
     ensures { λ _. ⌜ now (out .exit) ≡ runOf octoRows ⌝ }
 {
-    *out = multi::tables::octo_coax();
+    *out = multi::octo_coax();
 }
 
 #[no_mangle]
