@@ -1,7 +1,7 @@
 -- `frame::treated_sums` meets its contract. The loop's invariant: the sums up to i are filled in, treated, and the others are as they were. Assumes nothing.
 use mathlib.Core.Path.{_≡_, refl, sym, _∙_}
 use mathlib.Core.List.{List, map, map-map}
-use Prim.Native.Nat.{_*_, _-_, _≤_, _<_}
+use Prim.Native.Nat.{_-_, _≤_, _<_}
 use native.Mathlib.Omega.{arith}
 use lib.ListN.{length, length-set}
 use lib.Ieee.{Float, nan}

@@ -1,9 +1,9 @@
 -- `multi::allocate` meets its contract. The loop's invariant: the outputs up to i are filled with the rule's motors, and the others are as they were. Assumes nothing.
-use mathlib.Core.Path.{_≡_, refl, sym, _∙_}
+use mathlib.Core.Path.{_≡_, refl, _∙_}
 use mathlib.Core.List.{map}
-use Prim.Native.Nat.{ℕ, _*_, _-_, _≤_, _<_}
+use Prim.Native.Nat.{_-_, _≤_, _<_}
 use native.Mathlib.Omega.{arith}
-use lib.ListN.{length, getD, length-set}
+use lib.ListN.{length, length-set}
 use lib.Ieee.{Float, nan}
 use denote.Ref.{now}
 use borrow.Author.Needs.{needs, scaled-fits}
