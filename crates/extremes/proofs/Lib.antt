@@ -1,2 +1,2 @@
--- The walk over numbers from a place on, which the loops of `largest` and `least` are.
+-- The walk over numbers from a place on, which the loop of `best` is.
 pub mod Walk

@@ -27,7 +27,9 @@ pub struct Wrench {
 
 // What `mix` answers.
 pub enum Answer {
+    // Number 0: the outputs are written.
     Mixed,
+    // Number 10: they stay as they were.
     Refused,
 }
 
@@ -41,7 +43,7 @@ pub fn clamp01(x: f32) -> f32
     number::clamp01(x)
 }
 
-// Whether so many floats are not the rows of so many outputs.
+// Whether it is refused: over 64 outputs, or floats that are not four for each.
 fn refused(floats: usize, outputs: usize) -> bool
     ensures { λ r. ⌜ r ≡ rowsRefused floats outputs ⌝ }
 {

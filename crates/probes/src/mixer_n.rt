@@ -1,11 +1,10 @@
 // `MixerN`, exported for comparison with the Rust alone (compare/). A mixer passes as its 32 floats and its count.
 use frame::MixerN;
 ghost use mathlib.Core.Path.{_≡_};
-ghost use Rattle.rules.specs.Rows.{rowsOf};
+ghost use Rattle.rules.specs.Rows.{rowsOf, runOf, quadXRows};
 ghost use Rattle.rules.specs.Frame.{frameMotors};
 ghost use Rattle.rules.specs.Torque.{achieved};
 ghost use Rattle.frame.specs.Mixer.{made};
-ghost use Rattle.rules.specs.Rows.{runOf, quadXRows};
 
 // The mixer's matrix; answers its count.
 #[no_mangle]

@@ -1,5 +1,5 @@
 // Our answers, kind by kind. One kind more is an arm of `answer` here, in mixes.rt if it is about the quad, or in frames.rt if it is about any frame, and a line in
-// compare/driver/src/list.rs.
+// compare/driver/src/list.rs, list_quad.rs or list_frame.rs.
 ghost use Prim.Native.Nat.{_+_, _≤_};
 ghost use lib.ListN.{length};
 use crate::mixes;
@@ -7,9 +7,10 @@ use quad::QuadMixer;
 use wire::bits::bits_of;
 use wire::words::WORDS;
 
-// The most words that the inputs of a kind take, and its answers, which are compared as a run of words.
+// The most words that the inputs of a kind take: a wrench and 64 rows.
 pub const INPUTS: usize = 260;
 
+// The room for its answers, which are compared as a run of words.
 pub const ANSWERS: usize = WORDS;
 
 // What we answer, with zeros after the last word, and the quad's state after the record. No kind has the head where `known` is false.

@@ -13,26 +13,10 @@ use quad::QuadMixer;
 
 pub fn answer(head: u32, x: &[f32; INPUTS], state: QuadMixer) -> Ours {
     match head {
-        0x1809_0024 => mix(
-            state,
-            MixerN::new(matrix(x), 0),
-            &[x[32], x[33], x[34], x[35]],
-        ),
-        0x1909_0024 => mix(
-            state,
-            MixerN::new(matrix(x), 4),
-            &[x[32], x[33], x[34], x[35]],
-        ),
-        0x1a09_0024 => mix(
-            state,
-            MixerN::new(matrix(x), 8),
-            &[x[32], x[33], x[34], x[35]],
-        ),
-        0x1b09_0024 => mix(
-            state,
-            MixerN::new(matrix(x), 255),
-            &[x[32], x[33], x[34], x[35]],
-        ),
+        0x1809_0024 => mix_by(state, x, 0),
+        0x1909_0024 => mix_by(state, x, 4),
+        0x1a09_0024 => mix_by(state, x, 8),
+        0x1b09_0024 => mix_by(state, x, 255),
         0x1c09_0004 => mix(state, MixerN::quad_x(), &[x[0], x[1], x[2], x[3]]),
         0x1d04_0028 => achieved_wrench(state, x),
         0x1e00_0004 => lent(state, x, 0),
@@ -71,6 +55,12 @@ fn matrix(x: &[f32; INPUTS]) -> [f32; 32] {
     m
 }
 
+// The inputs are the matrix and the command.
+fn mix_by(state: QuadMixer, x: &[f32; INPUTS], count: usize) -> Ours {
+    let mixer = MixerN::new(matrix(x), count);
+    mix(state, mixer, &[x[32], x[33], x[34], x[35]])
+}
+
 // The command is roll, pitch, yaw and thrust. The answers are the eight motors, and the count.
 fn mix(state: QuadMixer, mixer: MixerN, command: &[f32; 4]) -> Ours {
     let motors = mixer.mix([command[0], command[1], command[2]], command[3]);
@@ -102,23 +92,17 @@ fn wrench(x: &[f32; INPUTS]) -> Wrench {
 }
 
 // The inputs are the wrench and the rows.
-fn lent(state: QuadMixer, x: &[f32], outputs: usize) -> Ours
-    requires { ⌜ (outputs ≤ 64) × (4 + 4 * outputs ≤ length (now x)) ⌝ }
+fn lent(state: QuadMixer, x: &[f32; INPUTS], outputs: usize) -> Ours
+    requires { ⌜ outputs ≤ 64 ⌝ }
 {
     let mut room = [0.0; ANSWERS];
-    lent_to(state, x, outputs, &mut room)
+    lent_to(state, wrench(x), x, outputs, &mut room)
 }
 
 // The motors are written to the first of the floats that are lent, which are zeros. A refusal is no answer of the Rust's, so it counts as a difference.
-fn lent_to(state: QuadMixer, x: &[f32], outputs: usize, room: &mut [f32]) -> Ours
+fn lent_to(state: QuadMixer, w: Wrench, x: &[f32], outputs: usize, room: &mut [f32]) -> Ours
     requires { ⌜ (outputs ≤ length (now room)) × (outputs ≤ 64) × (4 + 4 * outputs ≤ length (now x)) ⌝ }
 {
-    let w = Wrench {
-        thrust: x[0],
-        roll: x[1],
-        pitch: x[2],
-        yaw: x[3],
-    };
     let end = 4 + 4 * outputs;
     match multi::mix(&x[4..end], w, &mut room[..outputs]) {
         Answer::Mixed => told(words_of(room), state),

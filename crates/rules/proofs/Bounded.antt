@@ -1,14 +1,14 @@
 -- Each motor lies between its floor and 1, and so in 0..1: every mix ends in the floor clamp, whatever it clamps. Of the rotor-out mix this holds of the
 -- rotors that are not lost; the lost one is +0. Nothing is asked of the command but that the floor is an f32. Assumes nothing.
 use mathlib.Core.Path.{_≡_, refl, _∙_}
-use mathlib.Core.List.{List, [], _∷_, map, map-map}
+use mathlib.Core.List.{List, [], _∷_, map}
 use Prim.Native.Nat.{ℕ, zero, suc, _≤_, _<_}
 use native.Mathlib.Omega.{arith}
 use borrow.Author.Tests.{eq-eqb, ne-eqb}
 use lib.Dec.{T, eqb}
 use lib.ListN.{getD}
-use lib.Ieee.{Float, nan, binary32, fits, lt}
-use lib.Ieee.Fits.{add-fits, sub-fits}
+use lib.Ieee.{Float, nan, binary32, fits}
+use lib.Ieee.Fits.{add-fits}
 use Rattle.binary32.specs.Arithmetic.{_+f_, _*f_, 0f, 1f}
 use Rattle.binary32.specs.Range.{Between}
 use Rattle.number.specs.Treat.{treated, limited, floorClamp}
@@ -17,12 +17,11 @@ use Rattle.fit.specs.Fit.{fitScale}
 use Rattle.fit.proofs.Bounded.{scale-between}
 use Rattle.rules.specs.Rows.{Row, quadRows}
 use Rattle.rules.specs.Command.{deltas}
-use Rattle.rules.specs.Plain.{rawSum, rawSums, loweredBy, lowered, lowerLimited, plainMotors}
+use Rattle.rules.specs.Plain.{rawSum}
 use Rattle.rules.specs.ThrustFloor.{oneScale, scaledMotor, scaledMotors, thrustFloorScale, thrustFloorMotors}
 use Rattle.rules.specs.Priority.{priorityMotor, priorityMotors}
 use Rattle.rules.specs.Airmode.{shifted, airmodeMotors}
 use Rattle.rules.specs.RotorOut.{tiltMotor, motorWithout, motorsWithout}
-use Rattle.rules.specs.Frame.{frameMotors}
 use Rattle.rules.specs.Multi.{wrenchMotors}
 use Rattle.rules.specs.Promises.{Each, InUnit, RotorOutKeeps}
 use Rattle.rules.proofs.Lists.{each-mapped, each-at}
@@ -36,7 +35,7 @@ pub record Clamped (lo : Float) (motors : List Float) : Type 0 where
   pub unit : InUnit motors
 
 -- whatever is clamped at a floor, so long as the format holds it
-each-clamped : {A : Type 0} {lo : Float} (g : A → Float) → ((x : A) → T (fits binary32 (g x))) → Floor lo
+pub each-clamped : {A : Type 0} {lo : Float} (g : A → Float) → ((x : A) → T (fits binary32 (g x))) → Floor lo
     → (xs : List A) → Clamped lo (map (λ x. floorClamp (g x) lo) xs)
 each-clamped {lo} g fg h xs = record {
   bounded = each-mapped (Between lo 1f) (λ x. floorClamp (g x) lo) (λ x. clamp-inside (g x) (fg x) h .between) xs;
@@ -69,23 +68,6 @@ pub airmode-clamped : (rows : List Row) (torque : List Float) (thrust idle : Flo
     → Clamped (limited idle) (airmodeMotors rows torque thrust idle)
 unfolding airmodeMotors
 airmode-clamped rows torque thrust idle fi = shifted-clamped (limited-floor idle fi) _
-
-lowered-fits : (most x : Float) → T (fits binary32 x) → T (fits binary32 (loweredBy most x))
-unfolding loweredBy
-lowered-fits most x h = by-test (λ z. T (fits binary32 z)) (lt 1f most) (λ e. sub-fits binary32 x _) (λ e. h)
-
--- the limit after it is a clamp at +0, which is a floor: so for the plain mix, and for the mix of a frame, whose sums are treated first
-lower-limited-unit : {A : Type 0} (g : A → Float) → ((a : A) → T (fits binary32 (g a))) → (l : List A) → InUnit (lowerLimited (map g l))
-unfolding lowerLimited lowered
-lower-limited-unit g fg l = simp map-map (each-clamped _ (λ a. lowered-fits _ _ (fg a)) zero-floor l .unit)
-
-pub plain-unit : (rows : List Row) (torque : List Float) (thrust : Float) → InUnit (plainMotors rows torque thrust)
-unfolding plainMotors rawSums rawSum
-plain-unit rows torque thrust = lower-limited-unit _ (λ row. add-fits binary32 _ _) rows
-
-pub frame-unit : (rows : List Row) (torque : List Float) (thrust : Float) → InUnit (frameMotors rows torque thrust)
-unfolding frameMotors rawSums rawSum
-frame-unit rows torque thrust = simp map-map (lower-limited-unit _ (λ row. treated-finite _ (add-fits binary32 _ _) .fits) rows)
 
 -- 001 clamps each sum by itself
 pub wrench-unit : (rows : List Row) (t r p y : Float) → InUnit (wrenchMotors rows t r p y)

@@ -129,7 +129,7 @@ pub clamp-order : {x y lo : Float} → Floor lo → Finite binary32 x → Finite
 clamp-order {lo} h hx hy o =
     rw (clamp-finite hx lo, clamp-finite hy lo) (clamped-order (inside-number h) one-number (h .between .to) (finite-number hx) (finite-number hy) o)
 
--- at +0 it is the limiting to 0..1, in which document 01 says the end of the mix of `MixerN`
+-- at +0 it is the limiting to 0..1 that document 01 has at the end of `MixerN`'s mix
 pub clamp-at-zero : (x : Float) → floorClamp x 0f ≡ limited x
 unfolding floorClamp limited treated clamped lt ofBits
 clamp-at-zero x = by-test (λ b. b ≡ limited x) (finite x) (λ e. rw e) (λ e. rw e)

@@ -1,6 +1,6 @@
 -- The promises that ask something of a command can be met. Those of `fitting`, in each of the three mixes that make one: two commands to the quad fit. One
 -- has sums that are no f32, so that they have to be rounded; the other has sums at both ends of the range. That of `quadX`: a third command has no raw sum of
--- +infinity, and yet one that treating changes, and one over 1, so that all are lowered. Assumes nothing.
+-- +infinity, and yet two that treating changes, and one over 1, so that all are lowered. Assumes nothing.
 use mathlib.Core.Path.{_≡_, refl, sym, _∙_, subst}
 use mathlib.Core.Bool.{Bool, true, false, not, _&&_}
 use mathlib.Core.List.{List, [], _∷_}

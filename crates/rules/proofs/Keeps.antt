@@ -14,12 +14,12 @@ use Rattle.rules.specs.Airmode.{airmodeMotors}
 use Rattle.rules.specs.RotorOut.{rotorOutMotors}
 use Rattle.rules.specs.Frame.{frameMotors}
 use Rattle.rules.specs.Promises.{PlainKeeps, ThrustFloorKeeps, PriorityKeeps, AirmodeKeeps, RotorOutKeeps, FrameKeeps}
-use Rattle.rules.proofs.Bounded.{plain-unit, frame-unit, thrust-floor-clamped, thrust-floor-scaled, priority-clamped, airmode-clamped, without-keeps, tilt-keeps}
+use Rattle.rules.proofs.Bounded.{thrust-floor-clamped, thrust-floor-scaled, priority-clamped, airmode-clamped, without-keeps, tilt-keeps}
 use Rattle.rules.proofs.Ordered.{thrust-floor-ordered}
 use Rattle.rules.proofs.ThrustFloorFitting.{thrust-floor-fitting}
 use Rattle.rules.proofs.PriorityFitting.{priority-fitting}
 use Rattle.rules.proofs.AirmodeFitting.{airmode-fitting}
-use Rattle.rules.proofs.Plain.{plain-no-nan, plain-overflowed, plain-attained, plain-to-one}
+use Rattle.rules.proofs.Plain.{plain-no-nan, plain-overflowed, plain-attained, plain-to-one, plain-unit, frame-unit}
 use Rattle.rules.proofs.QuadX.{quad-x-agrees}
 
 -- the plain mix, of the quad; the torque's numbers are f32s, and so is the thrust

@@ -1,13 +1,14 @@
 -- Document 01's claims on the plain mix ('The five quad mixes', 1), of any torque and thrust that binary32 holds: "Raw sums are never NaN here", "One raw
--- +infinity makes all four 0", and "A finite largest over 1 and up to 2^24 ends exactly at 1". The last two are of any list of raw sums. Assumes nothing.
+-- +infinity makes all four 0", and "A finite largest over 1 and up to 2^24 ends exactly at 1". The last two are of any list of raw sums. Last, the motors lie in 0..1, and so do those
+-- of the mix of a frame, which ends as plain does. Assumes nothing.
 use mathlib.Core.Path.{_≡_, refl, sym, ap, _∙_, subst}
 use mathlib.Core.Bool.{true, false, not}
-use mathlib.Core.List.{List, [], _∷_, map-map}
+use mathlib.Core.List.{List, [], _∷_, map, map-map}
 use Prim.Native.Nat.{ℕ}
 use lib.Dec.{T}
 use lib.ListN.{getD}
 use lib.Ieee.{Float, nan, inf, fin, binary32, fits, isNan, lt, le, neg, add, sub, ofBits}
-use lib.Ieee.Fits.{add-fits}
+use lib.Ieee.Fits.{add-fits, sub-fits}
 use Rattle.binary32.specs.Arithmetic.{_*f_, 0f, 1f}
 use Rattle.binary32.specs.Range.{Between}
 use Rattle.binary32.proofs.Magnitude.{Number, Finite, finite-number}
@@ -16,14 +17,17 @@ use Rattle.binary32.proofs.Operations.{add-number}
 use Rattle.binary32.proofs.Products.{unit, one-is-unit, one-product-finite, minus-one-product-finite}
 use Rattle.binary32.proofs.LessOne.{endOf, back-to-one}
 use Rattle.number.specs.Treat.{treated, clamped, floorClamp}
+use Rattle.number.proofs.Choice.{by-test}
 use Rattle.rules.specs.Rows.{Row, thrustOf, rollOf, pitchOf, yawOf, -1f, quadRows}
 use Rattle.rules.specs.Command.{roll, pitch, yaw}
 use Rattle.rules.specs.Extremes.{largest}
 use Rattle.rules.specs.Plain.{rawSum, rawSums, loweredBy, lowered, lowerLimited, plainMotors}
-use Rattle.rules.specs.Promises.{Each, OneOf, 2^24}
+use Rattle.rules.specs.Frame.{frameMotors}
+use Rattle.rules.specs.Promises.{Each, InUnit, OneOf, 2^24}
 use Rattle.rules.proofs.Lists.{each-mapped, each-map, map-at, map-fits, number-place}
-use Rattle.rules.proofs.Clamp.{treated-finite}
+use Rattle.rules.proofs.Clamp.{zero-floor, treated-finite}
 use Rattle.rules.proofs.Extremes.{largest-is, NoNan, largest-infinite}
+use Rattle.rules.proofs.Bounded.{each-clamped}
 
 -- ---- a factor of a row, 1 or -1, keeps a finite number finite
 
@@ -140,3 +144,22 @@ plain-attained torque thrust =
       record { place = 0; there = refl },
       (record { place = 1; there = refl }, (record { place = 2; there = refl }, (record { place = 3; there = refl }, tt))),
     )
+
+-- ---- what is lowered and limited lies in 0..1, whatever it was
+
+lowered-fits : (most x : Float) → T (fits binary32 x) → T (fits binary32 (loweredBy most x))
+unfolding loweredBy
+lowered-fits most x h = by-test (λ z. T (fits binary32 z)) (lt 1f most) (λ e. sub-fits binary32 x _) (λ e. h)
+
+-- the limit after it is a clamp at +0, which is a floor: so for the plain mix, and for the mix of a frame, whose sums are treated first
+lower-limited-unit : {A : Type 0} (g : A → Float) → ((a : A) → T (fits binary32 (g a))) → (l : List A) → InUnit (lowerLimited (map g l))
+unfolding lowerLimited lowered
+lower-limited-unit g fg l = simp map-map (each-clamped _ (λ a. lowered-fits _ _ (fg a)) zero-floor l .unit)
+
+pub plain-unit : (rows : List Row) (torque : List Float) (thrust : Float) → InUnit (plainMotors rows torque thrust)
+unfolding plainMotors rawSums rawSum
+plain-unit rows torque thrust = lower-limited-unit _ (λ row. add-fits binary32 _ _) rows
+
+pub frame-unit : (rows : List Row) (torque : List Float) (thrust : Float) → InUnit (frameMotors rows torque thrust)
+unfolding frameMotors rawSums rawSum
+frame-unit rows torque thrust = simp map-map (lower-limited-unit _ (λ row. treated-finite _ (add-fits binary32 _ _) .fits) rows)

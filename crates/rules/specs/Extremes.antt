@@ -15,7 +15,7 @@ unfoldable pub walked : (Float → Float → Float) → Float → List Float →
 walked better held [] = held
 walked better held (x ∷ xs) = walked better (better held x) xs
 
--- The walk starts at the first. (Of no numbers it is +0; no frame has none.)
+-- The walk starts at the first. (Of no numbers it is +0; no mix that asks for it has none.)
 unfoldable pub best : (Float → Float → Float) → List Float → Float
 best better [] = 0f
 best better (x ∷ xs) = walked better x xs

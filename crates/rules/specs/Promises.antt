@@ -1,4 +1,4 @@
--- What the mixes promise of their motors (demand 3, and document 01's claims on plain), in words that each is said in once. Here `motors` and `scale` are what a
+-- What the mixes promise of their motors (demand 3, and document 01's claims on plain and on any airframe), in words that each is said in once. Here `motors` and `scale` are what a
 -- function answers, and a frame is any list of rows. Definitions only.
 use mathlib.Core.Path.{_≡_}
 use mathlib.Core.Bool.{true, false, not}
@@ -32,6 +32,10 @@ Bounded floor motors = Each (Between (limited floor) 1f) motors
 -- each lies in 0..1, so none is a NaN
 abbrev pub InUnit : List Float → Type 0
 InUnit motors = Each (Between 0f 1f) motors
+
+-- x is not +infinity
+abbrev pub NotInfinity : Float → Type 0
+NotInfinity x = x ≡ inf false → ⊥
 
 -- m is the exact sum of x and y "rounded once, zero's sign aside"
 abbrev pub SumRounded : Float → Float → Float → Type 0
@@ -80,10 +84,6 @@ pub record RotorOutKeeps (failed : ℕ) (floor : Float) (motors : List Float) : 
   -- every other one of the four is bounded: all four where the rotor number is 4 or more
   pub healthy : (i : ℕ) → i < 4 → (i ≡ failed → ⊥) → Between (limited floor) 1f (getD motors i nan)
   pub unit : InUnit motors
-
--- x is not +infinity
-abbrev pub NotInfinity : Float → Type 0
-NotInfinity x = x ≡ inf false → ⊥
 
 -- of any frame, `MixerN`'s: document 01's claims in 'Any airframe'
 pub record FrameKeeps (rows : List Row) (torque : List Float) (thrust : Float) (motors : List Float) : Type 0 where

@@ -1,4 +1,4 @@
--- The numbers of document 01's table of refusals. Definitions only; the quotations are document 01's.
+-- The numbers of refusals (the table in document 01, 'The command sheet (ours)'). Definitions only; the quotations are document 01's.
 use Prim.Native.Nat.{ℕ}
 
 -- "accepted"

@@ -9,17 +9,13 @@ use Rattle.replay.proofs.frames.lent_to.Tie as tie
 
 slice-aggregate-mix : tie.Need-slice-aggregate-mix
 slice-aggregate-mix c =
-    let args = c .before .before .before .before .before .before .before .before .args in
+    let args = c .before .before .before .before .args in
     sym (length-take-le (args .outputs) (now (args .room)) (omega arith))
 
 pub lent-to-spec : {M : Type 1} → statement M
 lent-to-spec =
     tie.close
     (tie.spec
-    (λ c. search needs)
-    (λ c. search needs)
-    (λ c. search needs)
-    (λ c. search needs)
     (λ c. search needs)
     (λ c. search needs)
     (λ c. search needs)
