@@ -1,20 +1,12 @@
 -- `multi::mix_octo_coax` meets its contract: the rows of the table's run are document 01's. Assumes nothing.
-use mathlib.Core.Path.{ap, _∙_}
-use mathlib.Core.List.{List}
 use borrow.Author.Needs.{needs}
-use lib.Ieee.{Float}
-use Rattle.rules.specs.Rows.{rowsOf}
 use Rattle.rules.proofs.Rows.{octo-rows}
-use Rattle.multi.specs.Wrench.{motorsOf}
-use Rattle.multi.proofs.Answers.{allocated}
+use Rattle.multi.proofs.Answers.{allocated-by-table}
 use Rattle.multi.proofs.mix_octo_coax.Statement.{statement}
 use Rattle.multi.proofs.mix_octo_coax.Tie as tie
 
 returns : tie.Need-returns
-returns c =
-    let at-table = c .before .before .before .before in
-    let w = at-table .before .args .w in
-    allocated (c .before .allocate .ensures ∙ ap (λ (run : List Float). motorsOf w (rowsOf run)) (at-table .octo-coax .ensures) ∙ ap (motorsOf w) octo-rows)
+returns c = allocated-by-table (c .before .allocate .ensures) (c .before .before .before .before .octo-coax .ensures) octo-rows
 
 pub mix-octo-coax-spec : {M : Type 1} → statement M
 mix-octo-coax-spec =
