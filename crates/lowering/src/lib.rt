@@ -1,4 +1,4 @@
-// All motors lowered together till none is over 1, and what is then under 0 cut: over any count, where they stand. Follows the last two steps of relay-mix-quad's `mix`, the
+// All motors lowered together by what the largest has over 1, then each cut to 0..1: over any count, where they stand. Follows the last two steps of relay-mix-quad's `mix`, the
 // quad's and `MixerN`'s (Apache-2.0, see NOTICE); changed: written in Rattle with contracts, one function for both, with choices in the place of branches.
 use extremes::largest;
 use number::clamp_floor;
@@ -13,6 +13,7 @@ fn lower(max: f32, v: f32) -> f32
     pick(max > 1.0, v - (max - 1.0), v)
 }
 
+// The largest ends at 1 only up to 2^24: from above that the difference is rounded, and the cut decides.
 pub fn lower_and_limit(m: &mut [f32])
     ensures { λ _. ⌜ now (m .exit) ≡ lowerLimited (now (m .entry)) ⌝ }
 {
