@@ -7,6 +7,8 @@ pub mod Rows
 pub mod Sums
 pub mod Four
 pub mod Held
+pub mod Count
+pub mod Refusals
 pub mod Determined
 pub mod Clamp
 pub mod Extremes

@@ -7,7 +7,7 @@ ghost use lib.Dec.{leb};
 ghost use Rattle.wire.specs.Bytes.{bytesOf, readAt, writeAt};
 
 // The byte at a place, or 0 past the end.
-fn byte(s: &[u8], at: usize) -> u8
+pub fn byte(s: &[u8], at: usize) -> u8
     ensures { λ r. ⌜ r ≡ readAt 1 (now (s .entry)) at ⌝ }
 {
     if at < s.len() { s[at] } else { 0 }

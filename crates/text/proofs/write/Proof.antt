@@ -1,14 +1,15 @@
 -- `text::write` meets its contract: a copy into the part from `at` on is a write at that place. Assumes nothing.
 use mathlib.Core.Path.{_≡_, sym, ap, _∙_}
-use mathlib.Core.List.{List, [], _++_, append-nil, append-assoc}
+use mathlib.Core.List.{List, _++_, append-assoc}
 use Prim.Native.Nat.{ℕ, _+_, _-_, _≤_}
 use native.Mathlib.Omega.{arith}
-use lib.ListN.{length, take, drop, length-drop, drop-of-length-le}
-use lib.Seq.{take-all, take-length, drop-drop}
+use lib.ListN.{length, take, drop}
+use lib.Seq.{take-length, drop-drop}
 use borrow.Author.Needs.{needs}
-use borrow.Rule.Slice.PartMut.{midOf, postOf, putMid, post-is}
+use borrow.Rule.Slice.PartMut.{midOf, putMid}
 use Rattle.wire.specs.Bytes.{writeAt}
 use Rattle.wire.proofs.LittleEndian.{writeAt-short, writeAt-fits}
+use Rattle.wire.proofs.Part.{part-lent, part-back}
 use Rattle.text.proofs.write.Statement.{statement}
 use Rattle.text.proofs.write.Tie as tie
 
@@ -22,10 +23,8 @@ returns-2 c = sym (writeAt-short _ _ _ (omega arith))
 put-back : (out s : List ℕ) (at : ℕ) → at + length s ≤ length out
     → putMid at (length out - at) out (take (length s) s ++ drop (length s) (midOf at (length out - at) out)) ≡ writeAt out at s
 put-back out s at h =
-    let end = length out in
-    let rest : midOf at (end - at) out ≡ drop at out = take-all (end - at) (drop at out) (rw length-drop (omega arith)) in
-    let after : postOf at (end - at) out ≡ [] = post-is at end out (omega arith) ∙ drop-of-length-le out {i = end} (omega arith) in
-    rw (after, rest, take-length, append-nil, drop-drop, writeAt-fits out at s h, append-assoc)
+    let place : at ≤ length out = omega arith in
+    rw (part-lent out at place, part-back out at place, take-length, drop-drop, writeAt-fits out at s h, append-assoc)
 
 returns-3 : tie.Need-returns-3
 returns-3 c =

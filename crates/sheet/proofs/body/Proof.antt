@@ -1,0 +1,82 @@
+-- `sheet::body` meets its contract: an accepted sheet has the body of each of its entries within it. Assumes nothing.
+use mathlib.Core.Path.{_≡_, sym, ap, _∙_}
+use Prim.Native.Nat.{_+_, _-_, _≤_}
+use native.Mathlib.Omega.{arith}
+use lib.ListN.{length}
+use borrow.Author.Needs.{needs}
+use Rattle.rules.specs.Refusals.{accepted, Told}
+use Rattle.entries.specs.Layout.{kindOf, bodySize}
+use Rattle.entries.proofs.Answers.{never-accepted}
+use Rattle.sheet.specs.Table.{judged}
+use Rattle.sheet.specs.Body.{bodyOf}
+use Rattle.sheet.proofs.Accepted.{is-accepted}
+use Rattle.sheet.proofs.Bodies.{body-within, none-refused, none-past, handed-back}
+use Rattle.sheet.proofs.body.Statement.{statement}
+use Rattle.sheet.proofs.body.Tie as tie
+
+-- the sheet is accepted
+is : (c : tie.After-enum-told) → judged (c .before .before .before .before .args .sheet .now) .number ≡ accepted
+is c = sym (ap (λ (t : Told). t .number) (rw (c .enum-told .given .1) at (c .before .before .check .ensures)))
+
+returns : tie.Need-returns
+returns c =
+    let told = c .before in
+    let refused = rw (told .enum-told2 .given .1) at (told .before .before .check .ensures) in
+    sym (none-refused _ _ (rw (← refused) (never-accepted (told .enum-told2 .given .0 .0))))
+
+returns-2 : tie.Need-returns-2
+returns-2 c =
+    let past = c .before in
+    sym (none-past _ _ (is (past .before .before)) (rw (past .before .count .ensures) at (past .if1 .taken)))
+
+-- the body ends within the sheet
+within : (c : tie.After-body-size) → c .before .before .offset .result + c .body-size .result ≤ length (c .before .before .before .before .before .before .before .before .before .args .sheet .now)
+within c =
+    let at = c .before .before in
+    let under = at .before in
+    let counted = under .before in
+    rw (c .body-size .ensures, c .before .kind .ensures, at .offset .ensures)
+    (body-within (is-accepted _ (is (counted .before))) _ (rw (counted .count .ensures) at (under .if1 .left)))
+
+add-end : tie.Need-add-end
+add-end c = omega (arith, within c)
+
+part-result-end : tie.Need-part-result-end
+part-result-end c = within c
+
+returns-3 : tie.Need-returns-3
+unfolding bodyOf
+returns-3 c =
+    let size = c .before in
+    let at = size .before .before in
+    let under = at .before in
+    let counted = under .before in
+    let s = counted .before .before .before .before .before .args .sheet .now in
+    let i = counted .before .before .before .before .before .args .i in
+    let sized : size .body-size .result ≡ bodySize (kindOf s i) = size .body-size .ensures ∙ ap bodySize (size .before .kind .ensures) in
+    let taken : at .offset .result + size .body-size .result - at .offset .result ≡ bodySize (kindOf s i) = omega arith in
+    rw (handed-back s i (is (counted .before)) (rw (counted .count .ensures) at (under .if1 .left)), taken, at .offset .ensures)
+
+pub body-spec : {M : Type 1} → statement M
+body-spec =
+    tie.close
+    (tie.spec
+    (λ c κs. search needs)
+    (λ c. search needs)
+    (λ c. search needs)
+    (λ c. search needs)
+    returns
+    (λ c κs. search needs)
+    (λ c. search needs)
+    (λ c. search needs)
+    returns-2
+    (λ c. search needs)
+    (λ c κs. search needs)
+    (λ c. search needs)
+    (λ c κs. search needs)
+    (λ c κs. search needs)
+    add-end
+    (λ c. search needs)
+    (λ c. search needs)
+    part-result-end
+    returns-3)

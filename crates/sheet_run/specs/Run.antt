@@ -1,0 +1,91 @@
+-- Running a sheet (document 01, 'The command sheet (ours)': "An accepted sheet is run from a [...] state as the same calls one after another"). Definitions only; the
+-- quotations are document 01's.
+use mathlib.Core.Path.{_≡_}
+use mathlib.Core.Bool.{cond}
+use mathlib.Core.List.{List, [], _∷_, _++_}
+use Prim.Native.Nat.{ℕ, zero, suc, _*_}
+use lib.Dec.{ltb, eqb}
+use lib.ListN.{length}
+use lib.Ieee.{Float, binary32, toBits}
+use Rattle.binary32.specs.Arithmetic.{1f}
+use Rattle.wire.specs.Bytes.{bytesOf, writeAt}
+use Rattle.rules.specs.Rows.{quadRows}
+use Rattle.rules.specs.Plain.{plainMotors}
+use Rattle.rules.specs.ThrustFloor.{thrustFloorMotors, thrustFloorScale}
+use Rattle.rules.specs.Priority.{priorityMotors}
+use Rattle.rules.specs.Airmode.{airmodeMotors}
+use Rattle.rules.specs.RotorOut.{rotorOutMotors}
+use Rattle.rules.specs.Promises.{PlainKeeps, ThrustFloorKeeps, PriorityKeeps, AirmodeKeeps, RotorOutKeeps}
+use Rattle.rules.specs.Refusals.{accepted, shortOutput, given, Told, alone, atEntry}
+use Rattle.quad.specs.declared.QuadMixer.{QuadMixer}
+use Rattle.quad.specs.State.{state}
+use Rattle.entries.specs.declared.command.Command.{Command}
+use Rattle.entries.specs.declared.command.Command.the-variants.{Plain, ThrustFloor, Priority, Airmode, RotorOut}
+use Rattle.entries.specs.Layout.{countOf}
+use Rattle.entries.specs.Entry.{commandAt}
+use Rattle.sheet.specs.declared.Verdict.{Verdict}
+use Rattle.sheet.specs.Table.{judged, toldBy}
+
+-- ---- one command
+
+-- the state after the call of a command's mix, and what that mix promises
+unfoldable pub called : QuadMixer → Command → QuadMixer
+called q (Plain t r p y) = state (plainMotors quadRows (r ∷ p ∷ y ∷ []) t) (q .«last_torque_scale»)
+called q (ThrustFloor t r p y floor) = state (thrustFloorMotors quadRows (r ∷ p ∷ y ∷ []) t floor) (thrustFloorScale quadRows (r ∷ p ∷ y ∷ []) t floor)
+called q (Priority t r p y floor) = state (priorityMotors quadRows (r ∷ p ∷ y ∷ []) t floor) (q .«last_torque_scale»)
+called q (Airmode t r p y floor) = state (airmodeMotors quadRows (r ∷ p ∷ y ∷ []) t floor) (q .«last_torque_scale»)
+called q (RotorOut failed t r p y floor) = state (rotorOutMotors failed (r ∷ p ∷ y ∷ []) t floor) 1f
+
+unfoldable pub Keeps : Command → List Float → Float → Type 0
+Keeps (Plain t r p y) motors scale = PlainKeeps (r ∷ p ∷ y ∷ []) t motors
+Keeps (ThrustFloor t r p y floor) motors scale = ThrustFloorKeeps quadRows (r ∷ p ∷ y ∷ []) t floor motors scale
+Keeps (Priority t r p y floor) motors scale = PriorityKeeps quadRows (r ∷ p ∷ y ∷ []) t floor motors
+Keeps (Airmode t r p y floor) motors scale = AirmodeKeeps quadRows (r ∷ p ∷ y ∷ []) t floor motors
+Keeps (RotorOut failed t r p y floor) motors scale = RotorOutKeeps failed floor motors
+
+pub record Called (q : QuadMixer) (c : Command) (r : QuadMixer) : Type 0 where
+  pub is : r ≡ called q c
+  pub keeps : Keeps c (r .«last_motors») (r .«last_torque_scale»)
+
+-- ---- the commands, one after another
+
+-- the commands of `left` entries from entry i on, and of all
+unfoldable pub commandsFrom : List ℕ → ℕ → ℕ → List Command
+commandsFrom s i zero = []
+commandsFrom s i (suc left) = commandAt s i ∷ commandsFrom s (suc i) left
+
+abbrev pub commandsOf : List ℕ → List Command
+commandsOf s = commandsFrom s 0 (countOf s)
+
+-- the state after them
+unfoldable pub ran : QuadMixer → List Command → QuadMixer
+ran q [] = q
+ran q (c ∷ cs) = ran (called q c) cs
+
+-- ---- the output
+
+-- each float as its four bytes, the least first; a NaN is 7fc00000
+unfoldable pub floatBytes : List Float → List ℕ
+floatBytes [] = []
+floatBytes (x ∷ xs) = bytesOf 4 (toBits binary32 x) ++ floatBytes xs
+
+-- "20 bytes [...]: four motors, then the recorded scale after that call"
+abbrev pub answerOf : QuadMixer → List ℕ
+answerOf q = floatBytes (q .«last_motors» ++ (q .«last_torque_scale» ∷ []))
+
+unfoldable pub answersOf : QuadMixer → List Command → List ℕ
+answersOf q [] = []
+answersOf q (c ∷ cs) = answerOf (called q c) ++ answersOf (called q c) cs
+
+-- ---- the run
+
+-- 1 to 8, then "output under 20k bytes", for an output of so many
+unfoldable pub judgedFor : List ℕ → ℕ → Told
+judgedFor s room = atEntry (judged s .number) (judged s .entry) (alone (given (ltb room (20 * countOf s)) shortOutput))
+
+-- a run from a state with an output: "On a refusal the output and state are unchanged"; else the state is that after the commands, each answer stands at its place,
+-- and "Bytes past 20k stay"
+pub record Ran (s : List ℕ) (before : QuadMixer) (out : List ℕ) (verdict : Verdict) (after : QuadMixer) (written : List ℕ) : Type 0 where
+  pub told : toldBy verdict ≡ judgedFor s (length out)
+  pub state : after ≡ cond (eqb (judgedFor s (length out) .number) accepted) (ran before (commandsOf s)) before
+  pub output : written ≡ cond (eqb (judgedFor s (length out) .number) accepted) (writeAt out 0 (answersOf before (commandsOf s))) out
