@@ -16,7 +16,7 @@ use Rattle.entries.specs.Layout.{countOf, entryAt, kindOf, offsetOf, bodySize, 
 use Rattle.sheet.specs.Table.{judged}
 use Rattle.sheet.specs.Body.{bodyOf, handedBack}
 use Rattle.sheet.proofs.Walk.{body-first, body-next}
-use Rattle.sheet.proofs.Accepted.{Accepted}
+use Rattle.sheet.proofs.Accepted.{Accepted, is-accepted}
 
 -- ---- within the sheet
 
@@ -90,3 +90,7 @@ module _ (s : List ℕ) (i : ℕ) where
     pub handed-back : i < countOf s → handedBack s i ≡ bodyOf s i
     unfolding handedBack
     handed-back h = rw (eq-eqb (judged s .number) accepted is, lt-ltb i (countOf s))
+
+-- of an accepted sheet, every entry's body is handed back whole: 16 or 20 bytes
+pub handed-length : (s : List ℕ) (i : ℕ) → judged s .number ≡ accepted → i < countOf s → (length (handedBack s i) ≡ 16) ⊎ (length (handedBack s i) ≡ 20)
+handed-length s i is under = rw (handed-back s i is under, body-length (is-accepted s is) i under) (sixteen-or-twenty (kindOf s i))

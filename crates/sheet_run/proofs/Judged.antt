@@ -1,8 +1,9 @@
 -- Refusal 9 after 1 to 8, and what a run is by its verdict. Assumes nothing.
 use mathlib.Core.Path.{_≡_, ap}
+use mathlib.Core.Bool.{false}
 use mathlib.Core.List.{List}
 use Prim.Native.Nat.{ℕ, _*_, _≤_, _<_}
-use lib.Dec.{ltb}
+use lib.Dec.{ltb, eqb}
 use lib.ListN.{length}
 use borrow.Author.Tests.{lt-ltb, le-ltb, ltb-false}
 use Rattle.wire.specs.Bytes.{writeAt}
@@ -23,6 +24,10 @@ module _ (s : List ℕ) (room : ℕ) where
   pub refused-before : (r : Refusal) (i : ℕ) → record { number = numberOf r; entry = i } ≡ judged s → record { number = numberOf r; entry = i } ≡ judgedFor s room
   unfolding judgedFor atEntry
   refused-before r i e = rw (← e, never-accepted r)
+
+  pub told-before : eqb (judged s .number) accepted ≡ false → judgedFor s room .number ≡ judged s .number
+  unfolding judgedFor atEntry
+  told-before h = rw h
 
   module _ (is : judged s .number ≡ accepted) where
     pub output-short : room < 20 * countOf s → judgedFor s room ≡ alone shortOutput

@@ -1,4 +1,10 @@
--- `Judged` has refusal 9 after the others, `Answers` how the output grows, and `Walk` the run one command at a time.
+-- `Judged` has refusal 9 after the others, `Answers` how the output grows, and `Walk` the run one command at a time. Then what is known of every run: `Methods`, that it is
+-- the quad's methods called one after another; `Prefix`, that an answer depends on no later command; `Room`, when refusal 9 cannot occur; and `Determined`, that the
+-- contracts leave nothing open.
 pub mod Judged
 pub mod Answers
 pub mod Walk
+pub mod Methods
+pub mod Prefix
+pub mod Room
+pub mod Determined

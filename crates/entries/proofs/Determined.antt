@@ -1,0 +1,88 @@
+-- Each public contract determines its answer: two results that satisfy it are one. A contract of this crate either says what the answer equals, or is `Decoded`, whose
+-- number and commands tell the cases of an entry's answer apart. Assumes nothing.
+use mathlib.Core.Path.{_≡_, refl, sym, ap, _∙_}
+use mathlib.Core.Bool.{cond}
+use mathlib.Core.List.{List}
+use Prim.Native.Nat.{ℕ}
+use lib.Dec.{eqb}
+use borrow.Author.Tests.{eqb-false}
+use Rattle.rules.specs.Refusals.{accepted, tooShort, badVersion, tooMany, badLength, badKind, badRotor, badOffset, badEnd}
+use Rattle.rules.proofs.Determined.{Determined, equal-determined}
+use Rattle.entries.specs.declared.command.Entry.{Entry}
+use Rattle.entries.specs.declared.command.Entry.the-variants.{Is, Refused}
+use Rattle.entries.specs.declared.refusal.Refusal.{Refusal}
+use Rattle.entries.specs.declared.refusal.Refusal.the-variants.{TooShort, BadVersion, TooMany, BadLength, BadKind, BadRotor, BadOffset, BadEnd, ShortOutput}
+use Rattle.entries.specs.Layout.{versionOf, countOf, lengthField, entryAt, kindOf, rotorOf, offsetOf, bodySize, numberIn}
+use Rattle.entries.specs.Refusal.{numberOf}
+use Rattle.entries.specs.Entry.{commandAt, choiceNumber, entryTold, commandsIn, Decoded}
+use Rattle.entries.proofs.Answers.{never-accepted}
+
+-- ---- the numbers tell the refusals apart
+
+-- the refusal of a number
+named : ℕ → Refusal
+named n =
+    cond (eqb n tooShort) TooShort
+    (cond (eqb n badVersion) BadVersion
+    (cond (eqb n tooMany) TooMany
+    (cond (eqb n badLength) BadLength
+    (cond (eqb n badKind) BadKind (cond (eqb n badRotor) BadRotor (cond (eqb n badOffset) BadOffset (cond (eqb n badEnd) BadEnd ShortOutput)))))))
+
+named-number : (r : Refusal) → named (numberOf r) ≡ r
+unfolding named
+named-number TooShort = refl
+named-number BadVersion = refl
+named-number TooMany = refl
+named-number BadLength = refl
+named-number BadKind = refl
+named-number BadRotor = refl
+named-number BadOffset = refl
+named-number BadEnd = refl
+named-number ShortOutput = refl
+
+pub number-tells : (r q : Refusal) → numberOf r ≡ numberOf q → r ≡ q
+number-tells r q e = sym (named-number r) ∙ ap named e ∙ named-number q
+
+-- ---- so do the number and the commands of an entry's answer
+
+answer-tells : (e d : Entry) → entryTold e ≡ entryTold d → commandsIn e ≡ commandsIn d → e ≡ d
+answer-tells (Is c) (Is b) n l = let same : c ≡ b = cc in ap Is same
+answer-tells (Refused r) (Refused q) n l = ap Refused (number-tells r q n)
+answer-tells (Is c) (Refused q) n l = absurd (eqb-false (numberOf q) accepted (never-accepted q) (sym n))
+answer-tells (Refused r) (Is b) n l = absurd (eqb-false (numberOf r) accepted (never-accepted r) n)
+
+-- ---- the public functions
+
+module _ (s : List ℕ) (i j kind : ℕ) (r : Refusal) where
+  pub version-determined : Determined (λ n. n ≡ versionOf s)
+  version-determined = equal-determined
+
+  pub count-determined : Determined (λ n. n ≡ countOf s)
+  count-determined = equal-determined
+
+  pub length-field-determined : Determined (λ n. n ≡ lengthField s)
+  length-field-determined = equal-determined
+
+  pub entry-at-determined : Determined (λ n. n ≡ entryAt i)
+  entry-at-determined = equal-determined
+
+  pub kind-determined : Determined (λ n. n ≡ kindOf s i)
+  kind-determined = equal-determined
+
+  pub rotor-determined : Determined (λ n. n ≡ rotorOf s i)
+  rotor-determined = equal-determined
+
+  pub offset-determined : Determined (λ n. n ≡ offsetOf s i)
+  offset-determined = equal-determined
+
+  pub body-size-determined : Determined (λ n. n ≡ bodySize kind)
+  body-size-determined = equal-determined
+
+  pub number-of-determined : Determined (λ x. x ≡ numberIn s i j)
+  number-of-determined = equal-determined
+
+  pub number-determined : Determined (λ n. n ≡ numberOf r)
+  number-determined = equal-determined
+
+  pub read-entry-determined : Determined (Decoded (choiceNumber (kindOf s i) (rotorOf s i)) (commandAt s i))
+  read-entry-determined e d h k = answer-tells e d (h .told ∙ sym (k .told)) (h .commands ∙ sym (k .commands))
