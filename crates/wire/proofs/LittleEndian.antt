@@ -213,3 +213,9 @@ readAt-before k out at bs n h = simp (take-drop k n, writeAt-before out at bs (n
 pub readAt-after : (k : ℕ) (out : List ℕ) (at : ℕ) (bs : List ℕ) (n : ℕ) → at + length bs ≤ n → readAt k (writeAt out at bs) n ≡ readAt k out n
 unfolding readAt
 readAt-after k out at bs n h = rw (writeAt-after out at bs n h)
+
+-- and what lies within them is read off them
+pub readAt-within : (k : ℕ) (out : List ℕ) (at : ℕ) (bs : List ℕ) (n : ℕ) → at + length bs ≤ length out → n + k ≤ length bs → readAt k (writeAt out at bs) (at + n) ≡ readAt k bs n
+unfolding readAt
+readAt-within k out at bs n room h =
+    rw (← drop-drop n at (writeAt out at bs), take-drop k n (drop at (writeAt out at bs)), ← take-take (n + k) (length bs) _ h, writeAt-between out at bs room, take-drop k n bs)

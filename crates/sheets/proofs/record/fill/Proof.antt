@@ -1,0 +1,35 @@
+-- `sheets::record::fill` is safe and ends: the loop counts the bytes. Assumes nothing.
+use mathlib.Core.Path.{_≡_}
+use Prim.Native.Nat.{_≤_, _-_}
+use native.Mathlib.Omega.{arith}
+use lib.ListN.{length, length-set}
+use borrow.Author.Needs.{needs}
+use Rattle.sheets.proofs.record.fill.Statement.{statement}
+use Rattle.sheets.proofs.record.fill.Tie as tie
+
+abbrev Inv-loop : tie.InvT-loop
+Inv-loop room₀ j₀ room j = (j ≤ length room) × (length room ≡ length room₀)
+
+abbrev μ-loop : tie.MeasureT-loop
+μ-loop room₀ j₀ room j = length room - j
+
+loop-again : tie.Need-loop-again Inv-loop μ-loop
+loop-again c = simp length-set (omega arith)
+
+loop-less : tie.Need-loop-less Inv-loop μ-loop
+loop-less c = simp length-set (omega arith)
+
+pub fill-spec : {M : Type 1} → statement M
+fill-spec =
+    tie.close
+    (tie.spec
+    Inv-loop
+    μ-loop
+    (λ c. search needs)
+    (λ c. search needs)
+    (λ c. search needs)
+    (λ c. search needs)
+    loop-less
+    loop-again
+    (λ c. search needs)
+    (λ c. search needs))
