@@ -15,6 +15,11 @@ pub trait Hex {
 /// An answer. Two are the same if their bits are, and a NaN is the same as any NaN.
 pub trait Answer: Hex {
     fn same(&self, other: &Self) -> bool;
+
+    /// Ours and the Rust's, to be shown where they differ.
+    fn both(&self, other: &Self) -> String {
+        format!("ours {}, Rust {}", self.hex(), other.hex())
+    }
 }
 
 /// One function: its inputs, and how many answers of a range of cases differ.
@@ -43,9 +48,7 @@ pub fn row<I: Hex, A: Answer>(
                 let input = make(n);
                 let (a, b) = (ours(&input), rust(&input));
                 if !a.same(&b) {
-                    tally.note(n, || {
-                        format!("at {}: ours {}, Rust {}", input.hex(), a.hex(), b.hex())
-                    });
+                    tally.note(n, || format!("at {}: {}", input.hex(), a.both(&b)));
                 }
             }
         }),

@@ -1,9 +1,11 @@
-//! Writes the list that the program crates/replay replays: inputs, and the Rust's answers to them.
-//! There is nothing of ours in this program. compare/run --list builds and starts it.
+//! Writes the list that the program crates/replay replays: inputs, and the Rust's answers to them; and
+//! the list of crates/sheets, for which see list_sheets.rs. There is nothing of ours in this program.
+//! compare/run --list builds and starts it.
 //!
-//!   list FOLDER   writes FOLDER/stdin, the list, and FOLDER/stdout, what `replay` is to print
+//!   list FOLDER   writes FOLDER/replay/stdin, the list, and FOLDER/replay/stdout, what `replay` is to
+//!                 print; and FOLDER/sheets/stdin and FOLDER/sheets/stdout
 //!
-//! The list is words of four bytes, little-endian: how many records there are, and then the
+//! The list of `replay` is words of four bytes, little-endian: how many records there are, and then the
 //! records. A record is its head, its inputs and its answers. A head is 0xKKAAIIII: the kind, how
 //! many words the answers take, and how many the inputs take. A float is written as its bits, and
 //! an answer that is a NaN as 7fc00000. A truth is 1 or 0.
@@ -11,10 +13,12 @@
 // Only a part of each of these is used here: the rest is the program compare's.
 #[allow(dead_code)]
 mod chains;
+mod chosen_sheets;
 #[allow(dead_code)]
 mod commands;
 #[allow(dead_code)]
 mod compare;
+mod damaged;
 #[allow(dead_code)]
 mod frames;
 #[allow(dead_code)]
@@ -23,8 +27,12 @@ mod inputs;
 mod lent;
 mod list_frame;
 mod list_quad;
+mod list_sheets;
 #[allow(dead_code)]
 mod rust;
+mod sheet;
+#[allow(dead_code)]
+mod sheets;
 #[allow(dead_code)]
 mod special;
 
@@ -43,10 +51,13 @@ use rust::bits;
 fn main() -> ExitCode {
     let words: Vec<String> = env::args().skip(1).collect();
     let [folder] = &words[..] else {
-        eprintln!("list: it takes the folder to write to, and nothing else");
+        eprintln!("list: it takes the folder of the crates, and nothing else");
         return ExitCode::from(2);
     };
-    if let Err(error) = list().write(Path::new(folder)) {
+    let crates = Path::new(folder);
+    let written = list().write(&crates.join("replay"));
+    let written = written.and_then(|()| list_sheets::write_sheets(&crates.join("sheets")));
+    if let Err(error) = written {
         eprintln!("list: {folder}: {error}");
         return ExitCode::from(2);
     }

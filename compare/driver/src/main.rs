@@ -1,38 +1,49 @@
-//! Compares our functions with the Rust's by running both. compare/run builds and starts it.
+//! Compares our functions with the Rust's by running both, and our command sheet with a model of it
+//! over the Rust. compare/run builds and starts it.
 //!
 //!   --quick   the first 1024th of every row, and at least 1024 cases where it has as many
-//!   --wrong   functions that are wrong on purpose, in the place of ours
+//!   --sheets   the command sheet alone
+//!   --wrong   functions and sheet runners that are wrong on purpose, in the place of ours
 //!   --findings   the findings of docs/DIFFERENCES.md, on the Rust alone
 //!
-//! Exit status 0: no answer differs; with --wrong: each wrong function was noticed; with
+//! Exit status 0: no answer and no sheet differs; with --wrong: each wrong one was noticed; with
 //! --findings: each answer is the stated one.
 
 mod chains;
+mod chosen_sheets;
 mod commands;
 mod compare;
+mod damaged;
 mod findings;
 mod frame_table;
 mod frames;
 mod inputs;
 mod lent;
 mod ours;
+mod ours_sheet;
 mod quad_table;
 mod rust;
+mod sheet;
+mod sheet_table;
+mod sheets;
+mod slips;
 mod special;
 mod table;
 mod wrong;
 mod wrong_frame;
 mod wrong_quad;
+mod wrong_sheet;
 
 use std::process::ExitCode;
 
 use compare::{Row, Tally};
 
 fn main() -> ExitCode {
-    let (mut quick, mut wrong, mut findings) = (false, false, false);
+    let (mut quick, mut sheets, mut wrong, mut findings) = (false, false, false, false);
     for word in std::env::args().skip(1) {
         match word.as_str() {
             "--quick" => quick = true,
+            "--sheets" => sheets = true,
             "--wrong" => wrong = true,
             "--findings" => findings = true,
             _ => {
@@ -44,19 +55,9 @@ fn main() -> ExitCode {
     let good = if findings {
         run_findings()
     } else if wrong {
-        let tables = [
-            wrong::wrong_table(),
-            wrong_quad::wrong_quad_table(),
-            wrong_frame::wrong_frame_table(),
-        ];
-        notice_all(&joined(tables), quick)
+        notice_both(sheets, quick)
     } else {
-        let tables = [
-            table::table(),
-            quad_table::quad_table(),
-            frame_table::frame_table(),
-        ];
-        compare_all(&joined(tables), quick)
+        compare_both(sheets, quick)
     };
     if good {
         ExitCode::SUCCESS
@@ -69,8 +70,32 @@ fn joined(tables: [Vec<Row>; 3]) -> Vec<Row> {
     tables.into_iter().flatten().collect()
 }
 
-/// Compares every row, and says whether no answer differs.
-fn compare_all(rows: &[Row], quick: bool) -> bool {
+// ---- ours
+
+/// Compares the functions, unless only sheets are asked for, and then the sheets. Says whether no
+/// answer and no sheet differs.
+fn compare_both(only_sheets: bool, quick: bool) -> bool {
+    let tables = [
+        table::table(),
+        quad_table::quad_table(),
+        frame_table::frame_table(),
+    ];
+    let answers = (!only_sheets).then(|| compare_all(&joined(tables), quick));
+    println!("{}", sheets::sheet_kinds());
+    let given = sheet_table::Given::default();
+    let rows = sheet_table::sheet_table(ours_sheet::Ours, &given);
+    let (compared, mut differ) = compare_all(&rows, quick);
+    println!("sheets by number: {}", given.listed());
+    println!("{compared} sheets compared, {differ} differ");
+    if let Some((compared, others)) = answers {
+        println!("{compared} answers compared, {others} differ");
+        differ += others;
+    }
+    differ == 0
+}
+
+/// Compares every row: how many were compared, and how many differ.
+fn compare_all(rows: &[Row], quick: bool) -> (u64, u64) {
     let (mut compared, mut differ) = (0, 0);
     for row in rows {
         let tally = row.run(cases(row, quick), false);
@@ -78,21 +103,43 @@ fn compare_all(rows: &[Row], quick: bool) -> bool {
         compared += tally.compared;
         differ += tally.differ;
     }
-    println!("{compared} answers compared, {differ} differ");
-    differ == 0
+    (compared, differ)
 }
 
-/// Compares every row of wrong functions till it differs, and says whether all do.
-fn notice_all(rows: &[Row], quick: bool) -> bool {
+// ---- wrong on purpose
+
+/// Compares the wrong functions, unless only sheets are asked for, and then the wrong sheet runners.
+/// Says whether each is noticed, and the right sheet runner not.
+fn notice_both(only_sheets: bool, quick: bool) -> bool {
+    let tables = [
+        wrong::wrong_table(),
+        wrong_quad::wrong_quad_table(),
+        wrong_frame::wrong_frame_table(),
+    ];
+    let functions = (!only_sheets).then(|| notice_all(&joined(tables), quick));
+    let (_, falsely) = compare_all(&[wrong_sheet::right_sheet()], quick);
+    let (runners, noticed) = notice_all(&wrong_sheet::wrong_sheet_table(), quick);
+    println!("{runners} wrong sheet runners, {noticed} noticed");
+    let mut good = falsely == 0 && noticed == runners;
+    if let Some((functions, noticed)) = functions {
+        println!("{functions} wrong functions, {noticed} noticed");
+        good &= noticed == functions;
+    }
+    good
+}
+
+/// Compares every row of wrong functions till it differs: how many there are, and how many do.
+fn notice_all(rows: &[Row], quick: bool) -> (usize, usize) {
     let mut noticed = 0;
     for row in rows {
         let tally = row.run(cases(row, quick), true);
         show(row, &tally);
         noticed += usize::from(0 < tally.differ);
     }
-    println!("{} wrong functions, {noticed} noticed", rows.len());
-    noticed == rows.len()
+    (rows.len(), noticed)
 }
+
+// ---- findings
 
 /// Runs every finding, and says whether each answer is the stated one.
 fn run_findings() -> bool {
@@ -108,6 +155,8 @@ fn run_findings() -> bool {
     println!("{} findings run, {differ} differ", all.len());
     differ == 0
 }
+
+// ---- a row
 
 /// How many cases of a row are run.
 fn cases(row: &Row, quick: bool) -> u64 {

@@ -1,3 +1,4 @@
 pub mod Matrix
 pub mod Five
 pub mod Four
+pub mod Sheet

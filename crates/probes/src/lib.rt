@@ -1,5 +1,6 @@
 // The inner functions, exported for comparison with the Rust alone (compare/). Each passes on what one function of a crate below gives, and its contract says
 // the same. It is no interface for an autopilot.
+mod command_sheet;
 mod mixer_n;
 mod quad_mixer;
 mod wrench;

@@ -12,7 +12,7 @@ ghost use Rattle.rules.specs.Torque.{torqueOf};
 ghost use Rattle.quad.specs.State.{fresh};
 ghost use Rattle.probes.specs.Five.{mixer, five};
 
-fn mixer(state: &[f32; 5]) -> QuadMixer
+pub fn mixer(state: &[f32; 5]) -> QuadMixer
     ensures { λ r. ⌜ r ≡ mixer (now (state .entry)) ⌝ }
 {
     QuadMixer {
@@ -22,7 +22,7 @@ fn mixer(state: &[f32; 5]) -> QuadMixer
 }
 
 // What the two readers give.
-fn five(q: QuadMixer) -> [f32; 5]
+pub fn five(q: QuadMixer) -> [f32; 5]
     ensures { λ r. ⌜ r ≡ five (q .«last_motors») (q .«last_torque_scale») ⌝ }
 {
     let m = q.last_motors();

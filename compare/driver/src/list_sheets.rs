@@ -1,0 +1,95 @@
+//! Writes the list that the program crates/sheets replays: sheets, and what the model makes of them.
+//!
+//! Numbers are words of four bytes, little-endian. First how many records there are; then a record
+//! is 18 words:
+//!
+//!   length of the sheet, length of the output, number, entry,
+//!   the state before (four motors, scale), the state after,
+//!   an entry whose body is asked for, where that body begins, its length,
+//!   length of the text
+//!
+//! and then the bytes of the sheet, of the output after the run, and of the text that `mixrun` prints
+//! for the sheet. Before the run byte j of the output is j modulo 251. A float of a state is written
+//! as its bits, and a NaN of the state after as 7fc00000. A text of length 0 is not compared.
+
+use std::iter::repeat;
+use std::path::Path;
+use std::{fs, io};
+
+use crate::chosen_sheets::chosen_sheets;
+use crate::inputs::Inputs;
+use crate::rust::bits;
+use crate::sheet::{self, READ};
+use crate::sheets::{lent_bytes, Case, GROUPS};
+
+/// How many good ones, and how many of each other group, of those whose sheets and outputs have no
+/// more than so many bytes.
+const GOOD: usize = 80;
+const OTHERS: usize = 40;
+const LONGEST: usize = 640;
+
+#[derive(Default)]
+struct Sheets {
+    records: u32,
+    bytes: Vec<u8>,
+}
+
+impl Sheets {
+    fn words(&mut self, words: &[u32]) {
+        let bytes = words.iter().flat_map(|x| x.to_le_bytes());
+        self.bytes.extend(bytes);
+    }
+
+    /// Every second record has its text, if `mixrun` reads all of the sheet.
+    fn push(&mut self, case: &Case) {
+        let sheet = &case.sheet;
+        let index = case.index.min(u32::MAX as usize);
+        let mut out = lent_bytes(case.room);
+        let ran = sheet::run(sheet, &case.state, &mut out);
+        let (from, length) = sheet::body(sheet, index);
+        let text = match self.records % 2 == 0 && sheet.len() <= READ {
+            true => sheet::text(sheet),
+            false => Vec::new(),
+        };
+        let lengths = [sheet.len() as u32, out.len() as u32];
+        self.words(&[lengths, [ran.number, ran.entry]].concat());
+        self.words(&case.state.map(f32::to_bits));
+        self.words(&ran.state.map(|x| bits(&x)));
+        self.words(&[index, from, length, text.len()].map(|x| x as u32));
+        for part in [sheet, &out, &text] {
+            self.bytes.extend(part);
+        }
+        self.records += 1;
+    }
+
+    /// Adds the first so many of those that are not too long.
+    fn add(&mut self, name: &str, count: usize, inputs: Inputs<impl Fn(u64) -> Case>) {
+        let short = |case: &Case| case.sheet.len().max(case.room) <= LONGEST;
+        let all = (0..inputs.cases).map(inputs.make);
+        for case in all.filter(short).take(count) {
+            self.push(&case);
+        }
+        println!("{name}: {count}, {}", inputs.kinds);
+    }
+}
+
+pub fn write_sheets(folder: &Path) -> io::Result<()> {
+    let mut sheets = Sheets::default();
+    let chosen = chosen_sheets();
+    for n in 0..chosen.cases {
+        sheets.push(&(chosen.make)(n));
+    }
+    println!("sheets, chosen: {}, {}", chosen.cases, chosen.kinds);
+    let counts = [GOOD].into_iter().chain(repeat(OTHERS));
+    for (group, count) in GROUPS.iter().zip(counts) {
+        sheets.add(group.name, count, group.inputs());
+    }
+    let records = sheets.records;
+    let bytes = [&records.to_le_bytes()[..], &sheets.bytes].concat();
+    fs::create_dir_all(folder)?;
+    fs::write(folder.join("stdin"), &bytes)?;
+    let line = format!("{records} sheets replayed, 0 differ\n");
+    fs::write(folder.join("stdout"), line)?;
+    println!("{records} sheets, {} bytes", bytes.len());
+    Ok(())
+}
