@@ -2,8 +2,9 @@
 //! the list of crates/sheets, for which see list_sheets.rs. There is nothing of ours in this program.
 //! compare/run --list builds and starts it.
 //!
-//!   list FOLDER   writes FOLDER/replay/stdin, the list, and FOLDER/replay/stdout, what `replay` is to
-//!                 print; and FOLDER/sheets/stdin and FOLDER/sheets/stdout
+//!   list ROOT   writes under ROOT/crates replay/stdin, the list, and replay/stdout, what `replay` is to
+//!               print; sheets/stdin and sheets/stdout; and under ROOT/examples, beside each sheet,
+//!               the lines that `mixrun` is to print for it
 //!
 //! The list of `replay` is words of four bytes, little-endian: how many records there are, and then the
 //! records. A record is its head, its inputs and its answers. A head is 0xKKAAIIII: the kind, how
@@ -50,15 +51,19 @@ use rust::bits;
 
 fn main() -> ExitCode {
     let words: Vec<String> = env::args().skip(1).collect();
-    let [folder] = &words[..] else {
-        eprintln!("list: it takes the folder of the crates, and nothing else");
+    let [root] = &words[..] else {
+        eprintln!("list: it takes the repository's root, and nothing else");
         return ExitCode::from(2);
     };
-    let crates = Path::new(folder);
+    let (crates, examples) = (
+        Path::new(root).join("crates"),
+        Path::new(root).join("examples"),
+    );
     let written = list().write(&crates.join("replay"));
     let written = written.and_then(|()| list_sheets::write_sheets(&crates.join("sheets")));
+    let written = written.and_then(|()| list_sheets::write_lines(&examples));
     if let Err(error) = written {
-        eprintln!("list: {folder}: {error}");
+        eprintln!("list: {root}: {error}");
         return ExitCode::from(2);
     }
     ExitCode::SUCCESS

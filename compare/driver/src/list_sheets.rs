@@ -1,4 +1,5 @@
-//! Writes the list that the program crates/sheets replays: sheets, and what the model makes of them.
+//! Writes the list that the program crates/sheets replays: sheets, and what the model makes of them;
+//! and the lines of the example sheets.
 //!
 //! Numbers are words of four bytes, little-endian. First how many records there are; then a record
 //! is 18 words:
@@ -91,5 +92,20 @@ pub fn write_sheets(folder: &Path) -> io::Result<()> {
     let line = format!("{records} sheets replayed, 0 differ\n");
     fs::write(folder.join("stdout"), line)?;
     println!("{records} sheets, {} bytes", bytes.len());
+    Ok(())
+}
+
+/// Beside each sheet of a folder, what `mixrun` is to print for it.
+pub fn write_lines(folder: &Path) -> io::Result<()> {
+    let mut sheets = 0;
+    for entry in fs::read_dir(folder)? {
+        let path = entry?.path();
+        if path.extension() == Some("sheet".as_ref()) {
+            let text = sheet::text(&fs::read(&path)?);
+            fs::write(path.with_extension("lines"), text)?;
+            sheets += 1;
+        }
+    }
+    println!("examples: {sheets}");
     Ok(())
 }
