@@ -32,6 +32,7 @@ const LONGEST: usize = 640;
 #[derive(Default)]
 struct Sheets {
     records: u32,
+    by_number: [u32; 10],
     bytes: Vec<u8>,
 }
 
@@ -60,6 +61,7 @@ impl Sheets {
         for part in [sheet, &out, &text] {
             self.bytes.extend(part);
         }
+        self.by_number[ran.number as usize] += 1;
         self.records += 1;
     }
 
@@ -91,6 +93,7 @@ pub fn write_sheets(folder: &Path) -> io::Result<()> {
     fs::write(folder.join("stdin"), &bytes)?;
     let line = format!("{records} sheets replayed, 0 differ\n");
     fs::write(folder.join("stdout"), line)?;
+    println!("sheets by number, 0 to 9: {:?}", sheets.by_number);
     println!("{records} sheets, {} bytes", bytes.len());
     Ok(())
 }

@@ -23,7 +23,7 @@ noneLost = 4
 unfoldable pub failedOf : ℕ → ℕ
 failedOf rotor = cond (ltb rotor noneLost) rotor noneLost
 
--- "Kinds 0 plain, 1 thrust-floor, 2 priority, 3 airmode, 4 rotor-out."
+-- "Kinds 0 plain, 1 thrust-floor, 2 priority, 3 airmode, 4 rotor-out." (No command is asked of a kind over 4, which is refused.)
 unfoldable pub commandOf : ℕ → ℕ → Float → Float → Float → Float → Float → Command
 commandOf kind rotor t r p y floor =
     cond (eqb kind 0) (Plain t r p y)

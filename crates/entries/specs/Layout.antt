@@ -49,3 +49,9 @@ bodyAt s (suc i) = bodyAt s i + bodySize (kindOf s i)
 -- number j of the body of entry i, which is at its offset: thrust, roll, pitch, yaw and floor are 0 to 4
 unfoldable pub numberIn : List ℕ → ℕ → ℕ → Float
 numberIn s i j = ofBits binary32 (readAt 4 s (offsetOf s i + 4 * j))
+
+-- ---- the output
+
+-- "Each entry writes 20 bytes at its place in the output"
+abbrev pub answerSize : ℕ
+answerSize = 20

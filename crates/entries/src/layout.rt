@@ -6,6 +6,9 @@ use wire::bytes::byte;
 use wire::bytes::read_u16;
 use wire::bytes::read_u32;
 
+// How many bytes an answer takes in the output: four motors and the recorded scale.
+pub const ANSWER: usize = 20;
+
 pub fn version(sheet: &[u8]) -> u8
     ensures { λ r. ⌜ r ≡ versionOf (now (sheet .entry)) ⌝ }
 {

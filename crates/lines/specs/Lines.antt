@@ -4,7 +4,7 @@ use mathlib.Core.List.{List, [], _∷_, _++_}
 use Prim.Native.Nat.{ℕ, zero, suc, _+_, _*_, _≤_}
 use lib.ListN.{length}
 use Rattle.wire.specs.Bytes.{readAt, writeAt}
-use Rattle.entries.specs.Layout.{countOf, kindOf}
+use Rattle.entries.specs.Layout.{countOf, kindOf, answerSize}
 use Rattle.text.specs.Digits.{hexOf, decimalOf}
 
 -- ---- the lines of an accepted sheet
@@ -18,11 +18,11 @@ unfoldable pub lineOf : List ℕ → List ℕ → ℕ → List ℕ
 lineOf s answers i =
     decimalOf i
     ++ (32 ∷ decimalOf (kindOf s i))
-    ++ wordAt answers (20 * i)
-    ++ wordAt answers (20 * i + 4)
-    ++ wordAt answers (20 * i + 8)
-    ++ wordAt answers (20 * i + 12)
-    ++ wordAt answers (20 * i + 16)
+    ++ wordAt answers (answerSize * i)
+    ++ wordAt answers (answerSize * i + 4)
+    ++ wordAt answers (answerSize * i + 8)
+    ++ wordAt answers (answerSize * i + 12)
+    ++ wordAt answers (answerSize * i + 16)
     ++ (10 ∷ [])
 
 -- "It prints a line an entry": the lines of as many entries as are left, from entry i on

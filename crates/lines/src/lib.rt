@@ -4,9 +4,10 @@
 ghost use mathlib.Core.List.{_∷_, _++_};
 ghost use Prim.Native.Nat.{_+_, _*_, _≤_};
 ghost use lib.ListN.{length};
-ghost use Rattle.entries.specs.Layout.{kindOf};
+ghost use Rattle.entries.specs.Layout.{kindOf, answerSize};
 ghost use Rattle.text.specs.Digits.{decimalOf};
 ghost use Rattle.lines.specs.Lines.{wordAt, lineOf, linesOf, refusedLine, Written, Put};
+use entries::layout::ANSWER;
 use entries::layout::count;
 use entries::layout::kind;
 use wire::bytes::read_u32;
@@ -35,9 +36,9 @@ fn put_decimal(text: &mut [u8; TEXT], at: usize, n: u8) -> usize
 // A space, and the bits of number j of entry i: the motors are 0 to 3, and the scale is 4.
 fn put_word(text: &mut [u8; TEXT], at: usize, answers: &[u8], i: u8, j: u8) -> usize
     requires { ⌜ at + 9 ≤ 13515 ⌝ }
-    ensures { λ r. ⌜ Put 9 (wordAt (now (answers .entry)) (20 * i + 4 * j)) (now (text .entry)) at (now (text .exit)) r ⌝ }
+    ensures { λ r. ⌜ Put 9 (wordAt (now (answers .entry)) (answerSize * i + 4 * j)) (now (text .entry)) at (now (text .exit)) r ⌝ }
 {
-    let bits = read_u32(answers, 20 * (i as usize) + 4 * (j as usize));
+    let bits = read_u32(answers, ANSWER * (i as usize) + 4 * (j as usize));
     let digits = put(text, at, b" ");
     text::write_hex(text, digits, bits);
     digits + 8

@@ -1,23 +1,18 @@
--- Refusal 9 after 1 to 8, and what a run is by its verdict. Assumes nothing.
-use mathlib.Core.Path.{_≡_, ap}
+-- Refusal 9 after 1 to 8. Assumes nothing.
+use mathlib.Core.Path.{_≡_}
 use mathlib.Core.Bool.{false}
 use mathlib.Core.List.{List}
 use Prim.Native.Nat.{ℕ, _*_, _≤_, _<_}
 use lib.Dec.{ltb, eqb}
-use lib.ListN.{length}
 use borrow.Author.Tests.{lt-ltb, le-ltb, ltb-false}
-use Rattle.wire.specs.Bytes.{writeAt}
-use Rattle.rules.specs.Refusals.{accepted, shortOutput, Told, alone, atEntry}
+use Rattle.rules.specs.Refusals.{accepted, shortOutput, alone, atEntry}
 use Rattle.rules.proofs.Refusals.{not-given, entry-passed}
-use Rattle.quad.specs.declared.QuadMixer.{QuadMixer}
 use Rattle.entries.specs.declared.refusal.Refusal.{Refusal}
 use Rattle.entries.specs.Layout.{countOf}
 use Rattle.entries.specs.Refusal.{numberOf}
 use Rattle.entries.proofs.Answers.{never-accepted}
-use Rattle.sheet.specs.declared.Verdict.{Verdict}
-use Rattle.sheet.specs.declared.Verdict.the-variants.{Accepted, Refused}
-use Rattle.sheet.specs.Table.{judged, toldBy}
-use Rattle.sheet_run.specs.Run.{commandsOf, ran, answersOf, judgedFor, Ran}
+use Rattle.sheet.specs.Table.{judged}
+use Rattle.sheet_run.specs.Run.{judgedFor}
 
 module _ (s : List ℕ) (room : ℕ) where
   -- a refused sheet stays refused
@@ -44,17 +39,3 @@ unfolding judgedFor
 accepted-for s room h =
     let parts = entry-passed (judged s .number) (judged s .entry) _ h in
     (parts .0, ltb-false room (20 * countOf s) (not-given (ltb room (20 * countOf s)) 8 (parts .1)))
-
--- ---- the run
-
-module _ {s : List ℕ} {before : QuadMixer} {out : List ℕ} where
-  pub run-refused : {r : Refusal} {i : ℕ} {v : Verdict} → v ≡ Refused r i → toldBy v ≡ judgedFor s (length out) → Ran s before out v before out
-  run-refused {r} {i} is told =
-      let number = ap (λ (t : Told). t .number) (rw is at told) in
-      record { told = told; state = rw (← number, never-accepted r); output = rw (← number, never-accepted r) }
-
-  pub run-accepted : {v : Verdict} {after : QuadMixer} {written : List ℕ} → v ≡ Accepted → toldBy v ≡ judgedFor s (length out)
-      → after ≡ ran before (commandsOf s) → written ≡ writeAt out 0 (answersOf before (commandsOf s)) → Ran s before out v after written
-  run-accepted is told state output =
-      let number = ap (λ (t : Told). t .number) (rw is at told) in
-      record { told = told; state = rw (← number) state; output = rw (← number) output }

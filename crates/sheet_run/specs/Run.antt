@@ -21,7 +21,7 @@ use Rattle.quad.specs.declared.QuadMixer.{QuadMixer}
 use Rattle.quad.specs.State.{state}
 use Rattle.entries.specs.declared.command.Command.{Command}
 use Rattle.entries.specs.declared.command.Command.the-variants.{Plain, ThrustFloor, Priority, Airmode, RotorOut}
-use Rattle.entries.specs.Layout.{countOf}
+use Rattle.entries.specs.Layout.{countOf, answerSize}
 use Rattle.entries.specs.Entry.{commandAt}
 use Rattle.sheet.specs.declared.Verdict.{Verdict}
 use Rattle.sheet.specs.Table.{judged, toldBy}
@@ -62,6 +62,11 @@ unfoldable pub ran : QuadMixer → List Command → QuadMixer
 ran q [] = q
 ran q (c ∷ cs) = ran (called q c) cs
 
+-- every answer keeps what its mix promises
+unfoldable pub EachKeeps : QuadMixer → List Command → Type 0
+EachKeeps q [] = Unit {0}
+EachKeeps q (c ∷ cs) = Keeps c (called q c .«last_motors») (called q c .«last_torque_scale») × EachKeeps (called q c) cs
+
 -- ---- the output
 
 -- each float as its four bytes, the least first; a NaN is 7fc00000
@@ -81,11 +86,12 @@ answersOf q (c ∷ cs) = answerOf (called q c) ++ answersOf (called q c) cs
 
 -- 1 to 8, then "output under 20k bytes", for an output of so many
 unfoldable pub judgedFor : List ℕ → ℕ → Told
-judgedFor s room = atEntry (judged s .number) (judged s .entry) (alone (given (ltb room (20 * countOf s)) shortOutput))
+judgedFor s room = atEntry (judged s .number) (judged s .entry) (alone (given (ltb room (answerSize * countOf s)) shortOutput))
 
 -- a run from a state with an output: "On a refusal the output and state are unchanged"; else the state is that after the commands, each answer stands at its place,
--- and "Bytes past 20k stay"
+-- and "Bytes past 20k stay". Each of these answers keeps what its mix promises.
 pub record Ran (s : List ℕ) (before : QuadMixer) (out : List ℕ) (verdict : Verdict) (after : QuadMixer) (written : List ℕ) : Type 0 where
   pub told : toldBy verdict ≡ judgedFor s (length out)
   pub state : after ≡ cond (eqb (judgedFor s (length out) .number) accepted) (ran before (commandsOf s)) before
   pub output : written ≡ cond (eqb (judgedFor s (length out) .number) accepted) (writeAt out 0 (answersOf before (commandsOf s))) out
+  pub keeps : EachKeeps before (commandsOf s)

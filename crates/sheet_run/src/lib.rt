@@ -13,6 +13,7 @@ ghost use Rattle.sheet_run.specs.Run.{Called, answerOf, judgedFor, comma
 use entries::command::Command;
 use entries::command::Entry;
 use entries::command::read_entry;
+use entries::layout::ANSWER;
 use entries::layout::count;
 use entries::refusal::Refusal;
 use quad::QuadMixer;
@@ -26,9 +27,6 @@ pub struct Outcome {
     pub verdict: Verdict,
     pub state: QuadMixer,
 }
-
-// How many bytes an answer takes: four motors and the recorded scale.
-pub const ANSWER: usize = 20;
 
 // A command as the call of its mix.
 pub fn call(q: QuadMixer, c: Command) -> QuadMixer

@@ -4,25 +4,26 @@ use Prim.Native.Nat.{_+_, _-_, _≤_}
 use native.Mathlib.Omega.{arith}
 use lib.ListN.{length}
 use borrow.Author.Needs.{needs}
-use Rattle.rules.specs.Refusals.{accepted, Told}
+use Rattle.rules.specs.Refusals.{accepted}
 use Rattle.entries.specs.Layout.{kindOf, bodySize}
 use Rattle.entries.proofs.Answers.{never-accepted}
 use Rattle.sheet.specs.Table.{judged}
 use Rattle.sheet.specs.Body.{bodyOf}
 use Rattle.sheet.proofs.Accepted.{is-accepted}
+use Rattle.sheet.proofs.Verdicts.{accepted-number, refused-number}
 use Rattle.sheet.proofs.Bodies.{body-within, none-refused, none-past, handed-back}
 use Rattle.sheet.proofs.body.Statement.{statement}
 use Rattle.sheet.proofs.body.Tie as tie
 
 -- the sheet is accepted
 is : (c : tie.After-enum-told) → judged (c .before .before .before .before .args .sheet .now) .number ≡ accepted
-is c = sym (ap (λ (t : Told). t .number) (rw (c .enum-told .given .1) at (c .before .before .check .ensures)))
+is c = accepted-number (c .before .before .check .ensures) (c .enum-told .given .1)
 
 returns : tie.Need-returns
 returns c =
     let told = c .before in
-    let refused = rw (told .enum-told2 .given .1) at (told .before .before .check .ensures) in
-    sym (none-refused _ _ (rw (← refused) (never-accepted (told .enum-told2 .given .0 .0))))
+    let number = refused-number (told .before .before .check .ensures) (told .enum-told2 .given .1) in
+    sym (none-refused _ _ (rw number (never-accepted (told .enum-told2 .given .0 .0))))
 
 returns-2 : tie.Need-returns-2
 returns-2 c =

@@ -1,15 +1,16 @@
 -- `sheet_run::judge` meets its contract: a refused sheet stays refused, and of an accepted one the output's length decides. Assumes nothing.
-use mathlib.Core.Path.{_≡_, sym, ap}
+use mathlib.Core.Path.{_≡_, sym}
 use borrow.Author.Needs.{needs}
-use Rattle.rules.specs.Refusals.{accepted, Told}
+use Rattle.rules.specs.Refusals.{accepted}
 use Rattle.sheet.specs.Table.{judged}
+use Rattle.sheet.proofs.Verdicts.{accepted-number}
 use Rattle.sheet_run.proofs.Judged.{refused-before, output-short, output-fits}
 use Rattle.sheet_run.proofs.judge.Statement.{statement}
 use Rattle.sheet_run.proofs.judge.Tie as tie
 
 -- the sheet is accepted
 is : (c : tie.After-enum-told) → judged (c .before .before .before .before .args .sheet .now) .number ≡ accepted
-is c = sym (ap (λ (t : Told). t .number) (rw (c .enum-told .given .1) at (c .before .before .check .ensures)))
+is c = accepted-number (c .before .before .check .ensures) (c .enum-told .given .1)
 
 returns : tie.Need-returns
 returns c =

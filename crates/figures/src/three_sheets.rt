@@ -1,5 +1,5 @@
-// Document 01's three sheets through the call that `mixrun` makes: one thrust-floor entry, no entries, and 65 entries, which is refused. The file stdout has what the
-// document says is printed, and the second prints nothing.
+// Document 01's three sheets through the call that `mixrun` makes: one thrust-floor entry, no entries, for which nothing is printed, and 65 entries, which is
+// refused.
 use libc::STDOUT_FILENO;
 use lines::TEXT;
 use report::text_of;
@@ -39,7 +39,7 @@ const NO_ENTRIES: [u8; 4] = [0x01, 0x00, 0x04, 0x00];
 
 const TOO_MANY: [u8; 4] = [0x01, 0x41, 0x04, 0x00];
 
-fn main() {
+pub fn show_all() {
     let one_entry = ONE_ENTRY;
     let no_entries = NO_ENTRIES;
     let too_many = TOO_MANY;

@@ -1,9 +1,9 @@
--- `three_sheets::show` is safe and ends: what is printed has no more bytes than the text has room for. Assumes nothing.
+-- `figures::three_sheets::show` is safe and ends: what is printed has no more bytes than the text has room for. Assumes nothing.
 use mathlib.Core.Path.{sym}
 use lib.Seq.{length-take-le}
 use borrow.Author.Needs.{needs}
-use Rattle.three_sheets.proofs.show.Statement.{statement}
-use Rattle.three_sheets.proofs.show.Tie as tie
+use Rattle.figures.proofs.three_sheets.show.Statement.{statement}
+use Rattle.figures.proofs.three_sheets.show.Tie as tie
 
 slice-aggregate-write-all : tie.Need-slice-aggregate-write-all
 slice-aggregate-write-all c = let printed = c .before .text-of in sym (length-take-le (printed .result) (printed .last .1 .0) (printed .ensures .within))

@@ -1,0 +1,16 @@
+-- What a verdict says of the number that is told. Assumes nothing.
+use mathlib.Core.Path.{_≡_, sym, ap}
+use Prim.Native.Nat.{ℕ}
+use Rattle.rules.specs.Refusals.{accepted, Told}
+use Rattle.entries.specs.declared.refusal.Refusal.{Refusal}
+use Rattle.entries.specs.Refusal.{numberOf}
+use Rattle.sheet.specs.declared.Verdict.{Verdict}
+use Rattle.sheet.specs.declared.Verdict.the-variants.{Accepted, Refused}
+use Rattle.sheet.specs.Table.{toldBy}
+
+module _ {v : Verdict} {t : Told} (told : toldBy v ≡ t) where
+  pub accepted-number : v ≡ Accepted → t .number ≡ accepted
+  accepted-number is = sym (ap (λ (t : Told). t .number) (rw is at told))
+
+  pub refused-number : {r : Refusal} {i : ℕ} → v ≡ Refused r i → t .number ≡ numberOf r
+  refused-number is = sym (ap (λ (t : Told). t .number) (rw is at told))

@@ -1,0 +1,75 @@
+-- Every answer of a run keeps what its mix promises: the numbers of a sheet are f32s, whatever its bytes. Assumes nothing.
+use mathlib.Core.Bool.{Bool, true, false, cond}
+use mathlib.Core.List.{List, [], _∷_}
+use Prim.Native.Nat.{ℕ, zero, suc}
+use lib.Dec.{T, eqb}
+use lib.ListN.{getD}
+use lib.Ieee.{Float, nan, binary32, fits}
+use lib.Ieee.Bits.{ofBits-fits}
+use lib.Ieee.Fits.{nan-fits}
+use Rattle.rules.specs.Rows.{quadRows}
+use Rattle.rules.proofs.Keeps.{plain-keeps, thrust-floor-keeps, priority-keeps, airmode-keeps, rotor-out-keeps}
+use Rattle.quad.specs.declared.QuadMixer.{QuadMixer}
+use Rattle.entries.specs.declared.command.Command.{Command}
+use Rattle.entries.specs.declared.command.Command.the-variants.{Plain, ThrustFloor, Priority, Airmode, RotorOut}
+use Rattle.entries.specs.Layout.{kindOf, rotorOf, numberIn}
+use Rattle.entries.specs.Entry.{failedOf, commandOf, commandAt}
+use Rattle.sheet_run.specs.Run.{called, Keeps, EachKeeps, commandsFrom}
+
+-- ---- a command of f32s
+
+abbrev Held : Float → Type 0
+Held x = T (fits binary32 x)
+
+-- all numbers of a command are f32s
+HeldIn : Command → Type 0
+HeldIn (Plain t r p y) = Held t × Held r × Held p × Held y
+HeldIn (ThrustFloor t r p y floor) = Held t × Held floor
+HeldIn (Priority t r p y floor) = Held t × Held floor
+HeldIn (Airmode t r p y floor) = Held t × Held floor
+HeldIn (RotorOut failed t r p y floor) = Held floor
+
+three-held : (r p y : Float) → Held r → Held p → Held y → (k : ℕ) → Held (getD (r ∷ p ∷ y ∷ []) k nan)
+three-held r p y hr hp hy zero = hr
+three-held r p y hr hp hy (suc zero) = hp
+three-held r p y hr hp hy (suc (suc zero)) = hy
+three-held r p y hr hp hy (suc (suc (suc k))) = nan-fits binary32
+
+called-keeps : (q : QuadMixer) (c : Command) → HeldIn c → Keeps c (called q c .«last_motors») (called q c .«last_torque_scale»)
+unfolding called Keeps HeldIn
+called-keeps q (Plain t r p y) h = plain-keeps (r ∷ p ∷ y ∷ []) t (three-held r p y (h .1) (h .2) (h .3)) (h .0)
+called-keeps q (ThrustFloor t r p y floor) h = thrust-floor-keeps quadRows (r ∷ p ∷ y ∷ []) t floor (h .0) (h .1)
+called-keeps q (Priority t r p y floor) h = priority-keeps quadRows (r ∷ p ∷ y ∷ []) t floor (h .0) (h .1)
+called-keeps q (Airmode t r p y floor) h = airmode-keeps quadRows (r ∷ p ∷ y ∷ []) t floor (h .0) (h .1)
+called-keeps q (RotorOut failed t r p y floor) h = rotor-out-keeps failed (r ∷ p ∷ y ∷ []) t floor h
+
+-- ---- a sheet's commands
+
+number-held : (s : List ℕ) (i j : ℕ) → Held (numberIn s i j)
+unfolding numberIn
+number-held s i j = ofBits-fits binary32 _
+
+of-held : (kind rotor : ℕ) (t r p y floor : Float) → Held t → Held r → Held p → Held y → Held floor → HeldIn (commandOf kind rotor t r p y floor)
+unfolding commandOf HeldIn
+of-held kind rotor t r p y floor ht hr hp hy hf = go (eqb kind 0) (eqb kind 1) (eqb kind 2) (eqb kind 3)
+  where
+    go : (a b c d : Bool)
+        → HeldIn (cond a (Plain t r p y) (cond b (ThrustFloor t r p y floor) (cond c (Priority t r p y floor) (cond d (Airmode t r p y floor) (RotorOut (failedOf rotor) t r p y floor)))))
+    go true b c d = (ht, hr, hp, hy)
+    go false true c d = (ht, hf)
+    go false false true d = (ht, hf)
+    go false false false true = (ht, hf)
+    go false false false false = hf
+
+command-held : (s : List ℕ) (i : ℕ) → HeldIn (commandAt s i)
+unfolding commandAt
+command-held s i =
+    let held = number-held s i in
+    of-held (kindOf s i) (rotorOf s i) _ _ _ _ _ (held 0) (held 1) (held 2) (held 3) (held 4)
+
+-- ---- the run
+
+pub each-keeps : (s : List ℕ) (q : QuadMixer) (i left : ℕ) → EachKeeps q (commandsFrom s i left)
+unfolding EachKeeps commandsFrom
+each-keeps s q i zero = tt
+each-keeps s q i (suc left) = (called-keeps q (commandAt s i) (command-held s i), each-keeps s (called q (commandAt s i)) (suc i) left)
