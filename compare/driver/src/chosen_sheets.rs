@@ -87,7 +87,7 @@ impl Chosen {
         });
     }
 
-    /// Adds a sheet with room for four entries, one more than many of these have.
+    /// Adds a sheet with room for four entries, the most that those have which can be accepted.
     fn add(&mut self, sheet: Vec<u8>) {
         self.add_with_room(sheet, 4 * ANSWER);
     }
@@ -207,7 +207,7 @@ impl Chosen {
         }
     }
 
-    /// A sheet of four entries with two damages, of which one is at an entry and the other too.
+    /// A sheet of four entries with two damages, at one entry or at two.
     fn add_pair(&mut self, (a, i): (u32, usize), (b, j): (u32, usize)) {
         let mut room = 4 * ANSWER;
         let sheet = changed(4, |sheet| {

@@ -68,7 +68,7 @@ fn any_byte(random: &mut Random) -> u8 {
     random.below(256) as u8
 }
 
-/// Damages a sheet so that this number is due, or an earlier one if the sheet is damaged already.
+/// Damages a sheet, aiming at this number; an earlier one is due if the sheet is damaged already.
 fn damage(random: &mut Random, case: &mut Case, number: u64) {
     let sheet = &mut case.sheet;
     let k = usize::from(byte(sheet, 1));

@@ -78,8 +78,8 @@ module _ (s : List ℕ) (i j kind : ℕ) (r : Refusal) where
   pub body-size-determined : Determined (λ n. n ≡ bodySize kind)
   body-size-determined = equal-determined
 
-  pub number-of-determined : Determined (λ x. x ≡ numberIn s i j)
-  number-of-determined = equal-determined
+  pub number-in-determined : Determined (λ x. x ≡ numberIn s i j)
+  number-in-determined = equal-determined
 
   pub number-determined : Determined (λ n. n ≡ numberOf r)
   number-determined = equal-determined

@@ -1,4 +1,4 @@
--- An entry of a sheet as "one command of five kinds", and refusals 5 to 7 (document 01, 'The command sheet (ours)'). Definitions only; the quotations are document
+-- An entry of a sheet as "one command of five kinds", and refusals 5 and 6 (document 01, 'The command sheet (ours)'). Definitions only; the quotations are document
 -- 01's.
 use mathlib.Core.Path.{_≡_}
 use mathlib.Core.Bool.{cond, not, _&&_}
@@ -6,12 +6,12 @@ use mathlib.Core.List.{List, [], _∷_}
 use Prim.Native.Nat.{ℕ}
 use lib.Dec.{ltb, eqb}
 use lib.Ieee.{Float}
-use Rattle.rules.specs.Refusals.{accepted, badKind, badRotor, badOffset, given, first}
+use Rattle.rules.specs.Refusals.{accepted, badKind, badRotor, given, first}
 use Rattle.entries.specs.declared.command.Command.{Command}
 use Rattle.entries.specs.declared.command.Command.the-variants.{Plain, ThrustFloor, Priority, Airmode, RotorOut}
 use Rattle.entries.specs.declared.command.Entry.{Entry}
 use Rattle.entries.specs.declared.command.Entry.the-variants.{Is, Refused}
-use Rattle.entries.specs.Layout.{kindOf, rotorOf, offsetOf, numberIn}
+use Rattle.entries.specs.Layout.{kindOf, rotorOf, numberIn}
 use Rattle.entries.specs.Refusal.{numberOf}
 
 -- ---- the command
@@ -41,10 +41,6 @@ commandAt s i = commandOf (kindOf s i) (rotorOf s i) (numberIn s i 0) (numberIn 
 -- "entry's kind over 4", then "rotor byte not 0, kind not 4"
 unfoldable pub choiceNumber : ℕ → ℕ → ℕ
 choiceNumber kind rotor = first (given (ltb 4 kind) badKind ∷ given (not (eqb kind 4) && not (eqb rotor 0)) badRotor ∷ [])
-
--- these two, then "offset is not the previous body's end", which is at `end`
-unfoldable pub entryNumber : List ℕ → ℕ → ℕ → ℕ
-entryNumber s i end = first (choiceNumber (kindOf s i) (rotorOf s i) ∷ given (not (eqb (offsetOf s i) end)) badOffset ∷ [])
 
 -- ---- the answer
 

@@ -1,9 +1,8 @@
 // An entry of a sheet as a command.
-ghost use mathlib.Core.Path.{_≡_};
 ghost use Rattle.entries.specs.Layout.{kindOf, rotorOf};
 ghost use Rattle.entries.specs.Entry.{commandOf, commandAt, choiceNumber, Decoded};
 use crate::layout::kind;
-use crate::layout::number_of;
+use crate::layout::number_in;
 use crate::layout::rotor;
 use crate::refusal::Refusal;
 
@@ -128,10 +127,10 @@ pub fn read_entry(sheet: &[u8], i: u8) -> Entry
     chosen(
         kind(sheet, i),
         rotor(sheet, i),
-        number_of(sheet, i, 0),
-        number_of(sheet, i, 1),
-        number_of(sheet, i, 2),
-        number_of(sheet, i, 3),
-        number_of(sheet, i, 4),
+        number_in(sheet, i, 0),
+        number_in(sheet, i, 1),
+        number_in(sheet, i, 2),
+        number_in(sheet, i, 3),
+        number_in(sheet, i, 4),
     )
 }

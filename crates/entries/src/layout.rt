@@ -63,7 +63,7 @@ pub fn body_size(kind: u8) -> usize
 }
 
 // Number j of the body of entry i, which begins at its offset: thrust, roll, pitch, yaw and floor are 0 to 4.
-pub fn number_of(sheet: &[u8], i: u8, j: u8) -> f32
+pub fn number_in(sheet: &[u8], i: u8, j: u8) -> f32
     ensures { λ r. ⌜ r ≡ numberIn (now (sheet .entry)) i j ⌝ }
 {
     float_of(read_u32(sheet, offset(sheet, i) as usize + 4 * (j as usize)))

@@ -47,12 +47,16 @@ refusedLine number entry =
 
 -- ---- what a function of this crate does to the lent text
 
--- One line or several, at the start of the lent text, whose other bytes stay; the answer is how many bytes were written. They are no more than the 13515 of a
--- text, and so the part up to there can be printed.
+-- room for 255 lines of 53 bytes
+abbrev pub textSize : ℕ
+textSize = 13515
+
+-- One line or several, at the start of the lent text, whose other bytes stay; the answer is how many bytes were written. They are no more than the text
+-- has, and so the part up to there can be printed.
 pub record Written (line before after : List ℕ) (r : ℕ) : Type 0 where
   pub text : after ≡ writeAt before 0 line
   pub size : r ≡ length line
-  pub room : r ≤ 13515
+  pub room : r ≤ textSize
   pub within : r ≤ length after
 
 -- A part of what is printed, of at most `most` bytes, at a place of the text where it fits; the answer is the place after it.

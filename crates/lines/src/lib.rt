@@ -6,7 +6,7 @@ ghost use Prim.Native.Nat.{_+_, _*_, _≤_};
 ghost use lib.ListN.{length};
 ghost use Rattle.entries.specs.Layout.{kindOf, answerSize};
 ghost use Rattle.text.specs.Digits.{decimalOf};
-ghost use Rattle.lines.specs.Lines.{wordAt, lineOf, linesOf, refusedLine, Written, Put};
+ghost use Rattle.lines.specs.Lines.{wordAt, lineOf, linesOf, refusedLine, textSize, Written, Put};
 use entries::layout::ANSWER;
 use entries::layout::count;
 use entries::layout::kind;
@@ -18,7 +18,7 @@ pub const TEXT: usize = 13515;
 
 // A function named `put` writes a part of what is printed at a place of the text, where it fits, and answers the place after it. This one is given bytes.
 fn put(text: &mut [u8; TEXT], at: usize, part: &[u8]) -> usize
-    requires { ⌜ at + length (now part) ≤ 13515 ⌝ }
+    requires { ⌜ at + length (now part) ≤ textSize ⌝ }
     ensures { λ r. ⌜ Put (length (now (part .entry))) (now (part .entry)) (now (text .entry)) at (now (text .exit)) r ⌝ }
 {
     text::write(text, at, part);
@@ -27,7 +27,7 @@ fn put(text: &mut [u8; TEXT], at: usize, part: &[u8]) -> usize
 
 // The digits of a byte.
 fn put_decimal(text: &mut [u8; TEXT], at: usize, n: u8) -> usize
-    requires { ⌜ at + 3 ≤ 13515 ⌝ }
+    requires { ⌜ at + 3 ≤ textSize ⌝ }
     ensures { λ r. ⌜ Put 3 (decimalOf n) (now (text .entry)) at (now (text .exit)) r ⌝ }
 {
     at + text::write_decimal(text, at, n as u64)
@@ -35,7 +35,7 @@ fn put_decimal(text: &mut [u8; TEXT], at: usize, n: u8) -> usize
 
 // A space, and the bits of number j of entry i: the motors are 0 to 3, and the scale is 4.
 fn put_word(text: &mut [u8; TEXT], at: usize, answers: &[u8], i: u8, j: u8) -> usize
-    requires { ⌜ at + 9 ≤ 13515 ⌝ }
+    requires { ⌜ at + 9 ≤ textSize ⌝ }
     ensures { λ r. ⌜ Put 9 (wordAt (now (answers .entry)) (answerSize * i + 4 * j)) (now (text .entry)) at (now (text .exit)) r ⌝ }
 {
     let bits = read_u32(answers, ANSWER * (i as usize) + 4 * (j as usize));
@@ -46,7 +46,7 @@ fn put_word(text: &mut [u8; TEXT], at: usize, answers: &[u8], i: u8, j: u8) -> u
 
 // The number of entry i, and its kind.
 fn put_head(text: &mut [u8; TEXT], at: usize, sheet: &[u8], i: u8) -> usize
-    requires { ⌜ at + 7 ≤ 13515 ⌝ }
+    requires { ⌜ at + 7 ≤ textSize ⌝ }
     ensures { λ r. ⌜ Put 7 (decimalOf i ++ (32 ∷ decimalOf (kindOf (now (sheet .entry)) i))) (now (text .entry)) at (now (text .exit)) r ⌝ }
 {
     let k = kind(sheet, i);
@@ -57,7 +57,7 @@ fn put_head(text: &mut [u8; TEXT], at: usize, sheet: &[u8], i: u8) -> usize
 
 // The line of entry i. Each local is the place of the part that it names.
 fn put_line(text: &mut [u8; TEXT], at: usize, sheet: &[u8], answers: &[u8], i: u8) -> usize
-    requires { ⌜ at + 53 ≤ 13515 ⌝ }
+    requires { ⌜ at + 53 ≤ textSize ⌝ }
     ensures { λ r. ⌜ Put 53 (lineOf (now (sheet .entry)) (now (answers .entry)) i) (now (text .entry)) at (now (text .exit)) r ⌝ }
 {
     let motor1 = put_head(text, at, sheet, i);

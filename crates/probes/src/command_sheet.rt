@@ -5,7 +5,6 @@ use entries::refusal::number;
 use lines::TEXT;
 use sheet::Verdict;
 ghost use mathlib.Core.Path.{_≡_};
-ghost use mathlib.Core.Bool.{cond};
 ghost use lib.ListN.{length};
 ghost use Rattle.wire.specs.Bytes.{writeAt};
 ghost use Rattle.sheet.specs.Body.{handedBack};

@@ -11,8 +11,8 @@ use Rattle.rules.specs.Command.{lifted, delta, deltas}
 use Rattle.rules.specs.ThrustFloor.{oneScale, scaledMotor, scaledMotors, thrustFloorScale, thrustFloorMotors}
 use Rattle.rules.specs.Refusals.{first, atEntry}
 use Rattle.entries.specs.Layout.{bodySize, bodyAt, numberIn}
-use Rattle.entries.specs.Entry.{failedOf, commandOf, commandAt, choiceNumber, entryNumber}
-use Rattle.sheet.specs.Table.{headNumber, endNumber, entriesTold, judged}
+use Rattle.entries.specs.Entry.{failedOf, commandOf, commandAt, choiceNumber}
+use Rattle.sheet.specs.Table.{entryNumber, headNumber, endNumber, entriesTold, judged}
 use Rattle.sheet_run.specs.Run.{called, commandsFrom, floatBytes, answersOf, judgedFor}
 use Rattle.text.specs.Digits.{hexOf, decimalWithin, decimalOf}
 use Rattle.lines.specs.Lines.{wordAt, lineOf, linesFrom, linesOf, refusedLine}

@@ -14,11 +14,11 @@ use Rattle.rules.specs.Priority.{priorityMotors}
 use Rattle.rules.specs.Airmode.{unshifted, shifted, airmodeMotors}
 use Rattle.rules.specs.RotorOut.{motorsWithout, rotorOutMotors}
 
-module _ (rows : List Row) (torque : List Float) (thrust floor : Float) where
-  pub plain-count : length (plainMotors rows torque thrust) ≡ length rows
-  unfolding plainMotors lowerLimited lowered rawSums
-  plain-count = simp length-map
+pub plain-count : (rows : List Row) (torque : List Float) (thrust : Float) → length (plainMotors rows torque thrust) ≡ length rows
+unfolding plainMotors lowerLimited lowered rawSums
+plain-count rows torque thrust = simp length-map
 
+module _ (rows : List Row) (torque : List Float) (thrust floor : Float) where
   pub thrust-floor-count : length (thrustFloorMotors rows torque thrust floor) ≡ length rows
   unfolding thrustFloorMotors scaledMotors deltas
   thrust-floor-count = simp length-map

@@ -74,6 +74,6 @@ pub record Told : Type 0 where
 abbrev pub alone : ℕ → Told
 alone n = record { number = n; entry = 0 }
 
--- a number of entry i, and where that is 0 what comes after it
+-- a number of entry i, and where the number is 0 what comes after it
 unfoldable pub atEntry : ℕ → ℕ → Told → Told
 atEntry n i later = cond (eqb n accepted) later (record { number = n; entry = i })

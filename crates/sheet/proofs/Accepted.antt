@@ -14,9 +14,9 @@ use Rattle.entries.specs.declared.command.Command.{Command}
 use Rattle.entries.specs.declared.command.Entry.the-variants.{Refused}
 use Rattle.entries.specs.declared.refusal.Refusal.{Refusal}
 use Rattle.entries.specs.Refusal.{numberOf}
-use Rattle.entries.specs.Entry.{choiceNumber, entryNumber, Decoded}
+use Rattle.entries.specs.Entry.{choiceNumber, Decoded}
 use Rattle.entries.proofs.Answers.{never-accepted, decoded-refusal}
-use Rattle.sheet.specs.Table.{maxEntries, headNumber, endNumber, entriesTold, judged}
+use Rattle.sheet.specs.Table.{entryNumber, maxEntries, headNumber, endNumber, entriesTold, judged}
 
 -- what each entry of an accepted sheet is
 pub record Good (s : List ℕ) (i : ℕ) : Type 0 where

@@ -9,7 +9,8 @@ use Rattle.entries.specs.declared.command.Entry.the-variants.{Is, Refused}
 use Rattle.entries.specs.declared.refusal.Refusal.{Refusal}
 use Rattle.entries.specs.declared.refusal.Refusal.the-variants.{BadOffset}
 use Rattle.entries.specs.Layout.{kindOf, rotorOf, offsetOf}
-use Rattle.entries.specs.Entry.{choiceNumber, entryNumber, Decoded}
+use Rattle.entries.specs.Entry.{choiceNumber, Decoded}
+use Rattle.sheet.specs.Table.{entryNumber}
 use Rattle.entries.proofs.Answers.{never-accepted, command-decoded, refusal-decoded, decoded-command, decoded-refusal}
 
 module _ (s : List ℕ) (i end : ℕ) {c : Command} where

@@ -7,8 +7,8 @@ use lib.Dec.{ltb, eqb}
 use lib.ListN.{length}
 use Rattle.rules.specs.Refusals.{accepted, given, first, Told, atEntry}
 use Rattle.entries.specs.Layout.{versionOf, countOf, lengthField, entryAt, kindOf, rotorOf, offsetOf, bodyAt}
-use Rattle.entries.specs.Entry.{choiceNumber, entryNumber}
-use Rattle.sheet.specs.Table.{maxEntries, headNumber, endNumber, entriesTold, judged}
+use Rattle.entries.specs.Entry.{choiceNumber}
+use Rattle.sheet.specs.Table.{entryNumber, maxEntries, headNumber, endNumber, entriesTold, judged}
 
 given-most : (applies : Bool) (n : ℕ) → n ≤ 8 → given applies n ≤ 8
 given-most true n h = h

@@ -1,6 +1,6 @@
 -- The walk over the entries, one more at a time: `left` of them are still to come after entry i. Assumes nothing.
 use mathlib.Core.Path.{_≡_, refl}
-use mathlib.Core.Bool.{Bool, true, false}
+use mathlib.Core.Bool.{Bool, true, false, cond}
 use mathlib.Core.List.{List}
 use Prim.Native.Nat.{ℕ, zero, suc, _+_, _-_, _*_, _≤_, _<_}
 use native.Mathlib.Numerals.{add-one}
@@ -14,9 +14,9 @@ use Rattle.entries.specs.declared.command.Entry.the-variants.{Is, Refused}
 use Rattle.entries.specs.declared.refusal.Refusal.{Refusal}
 use Rattle.entries.specs.Layout.{countOf, entryAt, kindOf, bodySize, bodyAt}
 use Rattle.entries.specs.Refusal.{numberOf}
-use Rattle.entries.specs.Entry.{entryNumber, Decoded}
+use Rattle.entries.specs.Entry.{Decoded}
 use Rattle.entries.proofs.Answers.{never-accepted, decoded-command, decoded-refusal}
-use Rattle.sheet.specs.Table.{endNumber, entriesTold}
+use Rattle.sheet.specs.Table.{entryNumber, endNumber, entriesTold}
 
 -- ---- where the bodies end
 
@@ -28,12 +28,12 @@ pub body-next : (s : List ℕ) (i : ℕ) → bodyAt s (i + 1) ≡ bodyAt s i + b
 unfolding bodyAt
 body-next s i = rw add-one
 
--- a body has 16 or 20 bytes
+-- a body has at most 20 bytes
 pub size-most : (kind : ℕ) → bodySize kind ≤ 20
 unfolding bodySize
 size-most kind = go (eqb kind 0)
   where
-    go : (t : Bool) → mathlib.Core.Bool.cond t 16 20 ≤ 20
+    go : (t : Bool) → cond t 16 20 ≤ 20
     go true = omega arith
     go false = omega arith
 

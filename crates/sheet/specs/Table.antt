@@ -5,12 +5,12 @@ use mathlib.Core.List.{List, [], _∷_}
 use Prim.Native.Nat.{ℕ, zero, suc}
 use lib.Dec.{ltb, eqb}
 use lib.ListN.{length}
-use Rattle.rules.specs.Refusals.{accepted, tooShort, badVersion, tooMany, badLength, badEnd, given, first, Told, alone, atEntry}
-use Rattle.entries.specs.Layout.{versionOf, countOf, lengthField, entryAt, bodyAt}
+use Rattle.rules.specs.Refusals.{accepted, tooShort, badVersion, tooMany, badLength, badOffset, badEnd, given, first, Told, alone, atEntry}
+use Rattle.entries.specs.Layout.{versionOf, countOf, lengthField, entryAt, kindOf, rotorOf, offsetOf, bodyAt}
 use Rattle.entries.specs.declared.command.Entry.{Entry}
-use Rattle.entries.specs.declared.command.Entry.the-variants.{Is, Refused as Refusal}
+use Rattle.entries.specs.declared.command.Entry.the-variants.{Is, Refused as entryRefused}
 use Rattle.entries.specs.Refusal.{numberOf}
-use Rattle.entries.specs.Entry.{entryNumber}
+use Rattle.entries.specs.Entry.{choiceNumber}
 use Rattle.sheet.specs.declared.Verdict.{Verdict}
 use Rattle.sheet.specs.declared.Verdict.the-variants.{Accepted, Refused}
 
@@ -27,6 +27,10 @@ headNumber s =
     ∷ given (ltb maxEntries (countOf s)) tooMany
     ∷ given (not (eqb (lengthField s) (length s)) || ltb (length s) (entryAt (countOf s))) badLength
     ∷ [])
+
+-- 5 and 6, then "offset is not the previous body's end", which is at `end`
+unfoldable pub entryNumber : List ℕ → ℕ → ℕ → ℕ
+entryNumber s i end = first (choiceNumber (kindOf s i) (rotorOf s i) ∷ given (not (eqb (offsetOf s i) end)) badOffset ∷ [])
 
 -- "last body's end (k = 0: 4) is not the length"
 unfoldable pub endNumber : List ℕ → ℕ
@@ -49,4 +53,4 @@ toldBy (Refused r i) = record { number = numberOf r; entry = i }
 -- an entry's answer, as the sheet's
 abbrev pub answeredAt : Entry → ℕ → Verdict
 answeredAt (Is c) i = Accepted
-answeredAt (Refusal r) i = Refused r i
+answeredAt (entryRefused r) i = Refused r i

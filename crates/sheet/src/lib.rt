@@ -1,9 +1,8 @@
 // The command sheet as a whole: whether it is accepted, and the body of an entry.
 ghost use mathlib.Core.Path.{_≡_};
-ghost use Rattle.rules.specs.Refusals.{alone, atEntry};
 ghost use Rattle.entries.specs.Layout.{countOf};
-ghost use Rattle.entries.specs.Entry.{commandAt, entryNumber, Decoded};
-ghost use Rattle.sheet.specs.Table.{headNumber, endNumber, entriesTold, judged, toldBy, answeredAt};
+ghost use Rattle.entries.specs.Entry.{commandAt, Decoded};
+ghost use Rattle.sheet.specs.Table.{entryNumber, entriesTold, judged, toldBy, answeredAt};
 ghost use Rattle.sheet.specs.Body.{handedBack};
 use entries::command::Entry;
 use entries::command::read_entry;
@@ -23,7 +22,7 @@ pub enum Verdict {
 }
 
 // How many entries a sheet may have.
-pub const MAX_ENTRIES: u8 = 64;
+const MAX_ENTRIES: u8 = 64;
 
 // Whether a sheet is accepted: refusals 1 to 8, the first that applies.
 pub fn check(sheet: &[u8]) -> Verdict

@@ -28,6 +28,11 @@ one-float : (x : Float) → floatBytes (x ∷ []) ≡ bytesOf 4 (toBits binary32
 unfolding floatBytes
 one-float x = append-nil _
 
+-- a NaN is 7fc00000
+pub nan-written : floatBytes (nan ∷ []) ≡ 0x00 ∷ 0x00 ∷ 0xc0 ∷ 0x7f ∷ []
+unfolding floatBytes bytesOf toBits
+nan-written = refl
+
 -- one float more
 floats-more : (xs : List Float) (x : Float) → floatBytes (xs ++ (x ∷ [])) ≡ floatBytes xs ++ bytesOf 4 (toBits binary32 x)
 unfolding floatBytes
@@ -56,7 +61,7 @@ nothing-written out at = go (leb (at + 0) (length out))
 -- a mix gives four motors
 called-four : (q : QuadMixer) (c : Command) → length (called q c .«last_motors») ≡ 4
 unfolding called quadRows
-called-four q (Plain t r p y) = plain-count quadRows (r ∷ p ∷ y ∷ []) t t
+called-four q (Plain t r p y) = plain-count quadRows (r ∷ p ∷ y ∷ []) t
 called-four q (ThrustFloor t r p y floor) = thrust-floor-count quadRows (r ∷ p ∷ y ∷ []) t floor
 called-four q (Priority t r p y floor) = priority-count quadRows (r ∷ p ∷ y ∷ []) t floor
 called-four q (Airmode t r p y floor) = airmode-count quadRows (r ∷ p ∷ y ∷ []) t floor

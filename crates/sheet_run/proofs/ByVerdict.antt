@@ -19,10 +19,10 @@ module _ {s : List ℕ} {before : QuadMixer} {out : List ℕ} {v : Verdict} (tol
   pub run-refused : {r : Refusal} {i : ℕ} → v ≡ Refused r i → Ran s before out v before out
   run-refused {r} is =
       let number = refused-number told is in
-      record { told = told; state = rw (number, never-accepted r); output = rw (number, never-accepted r); keeps = each-keeps s before 0 (countOf s) }
+      record { told = told; state = rw (number, never-accepted r); output = rw (number, never-accepted r); keeps = λ e. each-keeps s before 0 (countOf s) }
 
   pub run-accepted : {after : QuadMixer} {written : List ℕ} → v ≡ Accepted → after ≡ ran before (commandsOf s)
       → written ≡ writeAt out 0 (answersOf before (commandsOf s)) → Ran s before out v after written
   run-accepted is state output =
       let number = accepted-number told is in
-      record { told = told; state = rw number state; output = rw number output; keeps = each-keeps s before 0 (countOf s) }
+      record { told = told; state = rw number state; output = rw number output; keeps = λ e. each-keeps s before 0 (countOf s) }

@@ -21,7 +21,7 @@ use Rattle.sheet_run.specs.Run.{called, Keeps, EachKeeps, commandsFrom}
 abbrev Held : Float → Type 0
 Held x = T (fits binary32 x)
 
--- all numbers of a command are f32s
+-- the numbers of a command that its mix's promises need are f32s
 HeldIn : Command → Type 0
 HeldIn (Plain t r p y) = Held t × Held r × Held p × Held y
 HeldIn (ThrustFloor t r p y floor) = Held t × Held floor

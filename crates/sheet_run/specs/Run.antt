@@ -62,14 +62,14 @@ unfoldable pub ran : QuadMixer → List Command → QuadMixer
 ran q [] = q
 ran q (c ∷ cs) = ran (called q c) cs
 
--- every answer keeps what its mix promises
+-- every call keeps what its mix promises
 unfoldable pub EachKeeps : QuadMixer → List Command → Type 0
 EachKeeps q [] = Unit {0}
 EachKeeps q (c ∷ cs) = Keeps c (called q c .«last_motors») (called q c .«last_torque_scale») × EachKeeps (called q c) cs
 
 -- ---- the output
 
--- each float as its four bytes, the least first; a NaN is 7fc00000
+-- each float as its four bytes, the least first; a NaN is 7fc00000 (`nan-written`)
 unfoldable pub floatBytes : List Float → List ℕ
 floatBytes [] = []
 floatBytes (x ∷ xs) = bytesOf 4 (toBits binary32 x) ++ floatBytes xs
@@ -89,9 +89,9 @@ unfoldable pub judgedFor : List ℕ → ℕ → Told
 judgedFor s room = atEntry (judged s .number) (judged s .entry) (alone (given (ltb room (answerSize * countOf s)) shortOutput))
 
 -- a run from a state with an output: "On a refusal the output and state are unchanged"; else the state is that after the commands, each answer stands at its place,
--- and "Bytes past 20k stay". Each of these answers keeps what its mix promises.
+-- and "Bytes past 20k stay". Of an accepted sheet each call whose answer is written keeps what its mix promises.
 pub record Ran (s : List ℕ) (before : QuadMixer) (out : List ℕ) (verdict : Verdict) (after : QuadMixer) (written : List ℕ) : Type 0 where
   pub told : toldBy verdict ≡ judgedFor s (length out)
   pub state : after ≡ cond (eqb (judgedFor s (length out) .number) accepted) (ran before (commandsOf s)) before
   pub output : written ≡ cond (eqb (judgedFor s (length out) .number) accepted) (writeAt out 0 (answersOf before (commandsOf s))) out
-  pub keeps : EachKeeps before (commandsOf s)
+  pub keeps : judgedFor s (length out) .number ≡ accepted → EachKeeps before (commandsOf s)

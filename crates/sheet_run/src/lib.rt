@@ -6,7 +6,7 @@ ghost use Prim.Native.Nat.{_*_, _≤_};
 ghost use lib.ListN.{length};
 ghost use lib.Ieee.{binary32, toBits};
 ghost use Rattle.wire.specs.Bytes.{bytesOf, writeAt};
-ghost use Rattle.entries.specs.Layout.{countOf};
+ghost use Rattle.entries.specs.Layout.{countOf, answerSize};
 ghost use Rattle.rules.specs.Refusals.{accepted};
 ghost use Rattle.sheet.specs.Table.{judged, toldBy};
 ghost use Rattle.sheet_run.specs.Run.{Called, answerOf, judgedFor, commandsOf, ran, answersOf, Ran};
@@ -80,7 +80,7 @@ fn write_float(out: &mut [u8], at: usize, x: f32)
 
 // The answer of a call, at the start of the output part that is lent for it: four motors, then the scale.
 fn write_answer(out: &mut [u8], q: QuadMixer)
-    requires { ⌜ 20 ≤ length (now out) ⌝ }
+    requires { ⌜ answerSize ≤ length (now out) ⌝ }
     ensures { λ _. ⌜ now (out .exit) ≡ writeAt (now (out .entry)) 0 (answerOf q) ⌝ }
 {
     let m = q.last_motors();
@@ -107,7 +107,7 @@ fn judge(sheet: &[u8], room: usize) -> Verdict
 
 // The commands of an accepted sheet, one after another.
 fn run_entries(sheet: &[u8], state: QuadMixer, out: &mut [u8]) -> QuadMixer
-    requires { ⌜ (judged (now sheet) .number ≡ accepted) × (20 * countOf (now sheet) ≤ length (now out)) ⌝ }
+    requires { ⌜ (judged (now sheet) .number ≡ accepted) × (answerSize * countOf (now sheet) ≤ length (now out)) ⌝ }
     ensures { λ r. ⌜ (r ≡ ran state (commandsOf (now (sheet .entry)))) × (now (out .exit) ≡ writeAt (now (out .entry)) 0 (answersOf state (commandsOf (now (sheet .entry))))) ⌝ }
 {
     let mut q = state;

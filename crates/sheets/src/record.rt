@@ -1,6 +1,5 @@
-// A record of the list: 18 words, then the sheet, the output after the run, and the text that `mixrun` prints. A part that is not compared has length 0.
+// A record of the list: 18 words, then the sheet, the output after the run, and the text that `mixrun` prints. A text that is not compared has length 0.
 ghost use Prim.Native.Nat.{_≤_, _<_};
-ghost use lib.ListN.{length};
 use entries::refusal::number;
 use lines::TEXT;
 use quad::QuadMixer;
@@ -35,7 +34,7 @@ const PRINTED: usize = 68;
 
 const HEAD: usize = 72;
 
-// The most bytes that an output of the list has.
+// Room for an output: more than any of the list has.
 const MOST: usize = 2048;
 
 // A word of a record as a length or a place.

@@ -1,4 +1,4 @@
-// Numbers of two and four bytes, little-endian, read from a lent slice and written to one, at any
+// Bytes, and numbers of two and four bytes, little-endian, read from a lent slice and written to one, at any
 // place. A byte past the end is read as 0. A number that does not fit at its place is not written.
 
 ghost use mathlib.Core.Path.{_≡_};

@@ -14,7 +14,7 @@ returns c =
     let thrust = roll .before in
     let rotor = thrust .before in
     let kind = rotor .before in
-    simp (kind .kind .ensures, rotor .rotor .ensures, thrust .number-of .ensures, roll .number-of2 .ensures, pitch .number-of3 .ensures, yaw .number-of4 .ensures, floor .number-of5 .ensures) at (c .chosen .ensures)
+    simp (kind .kind .ensures, rotor .rotor .ensures, thrust .number-in .ensures, roll .number-in2 .ensures, pitch .number-in3 .ensures, yaw .number-in4 .ensures, floor .number-in5 .ensures) at (c .chosen .ensures)
 
 pub read-entry-spec : {M : Type 1} → statement M
 read-entry-spec =
