@@ -3,7 +3,7 @@ use mathlib.Core.Path.{_≡_}
 use Prim.Native.Nat.{ℕ, _<_}
 use native.Mathlib.Omega.{arith}
 use borrow.Author.Tests.{lt-ltb, le-ltb, ne-eqb}
-use Rattle.rules.specs.Refusals.{badKind, badRotor, first}
+use Rattle.rules.specs.Refusals.{accepted, badKind, badRotor, first}
 use Rattle.entries.specs.Entry.{choiceNumber}
 
 module _ (kind rotor : ℕ) where
@@ -16,3 +16,8 @@ module _ (kind rotor : ℕ) where
   pub rotor-refused : kind < 4 → (rotor ≡ 0 → ⊥) → choiceNumber kind rotor ≡ badRotor
   unfolding choiceNumber first
   rotor-refused h d = rw (le-ltb 4 kind (omega arith), ne-eqb kind 4 (λ e. omega arith), ne-eqb rotor 0 d)
+
+-- neither of them, of a kind that names no rotor
+pub none-refused : (kind : ℕ) → kind < 4 → choiceNumber kind 0 ≡ accepted
+unfolding choiceNumber first
+none-refused kind h = rw (le-ltb 4 kind (omega arith), ne-eqb kind 4 (λ e. omega arith))

@@ -1,4 +1,6 @@
 // An entry of a sheet as a command.
+ghost use mathlib.Core.Path.{_≡_};
+ghost use Prim.Native.Nat.{_<_};
 ghost use Rattle.entries.specs.Layout.{kindOf, rotorOf};
 ghost use Rattle.entries.specs.Entry.{commandOf, commandAt, choiceNumber, Decoded};
 use crate::layout::kind;
@@ -54,68 +56,65 @@ pub enum Entry {
 // The rotor number that stands for all that name none.
 pub const NONE_LOST: usize = 4;
 
+// The command of a kind that names no rotor.
+fn unlost(kind: u8, thrust: f32, roll: f32, pitch: f32, yaw: f32, floor: f32) -> Command
+    requires { ⌜ kind < 4 ⌝ }
+    ensures { λ c. ⌜ c ≡ commandOf kind 0 thrust roll pitch yaw floor ⌝ }
+{
+    match kind {
+        0 => Command::Plain {
+            thrust,
+            roll,
+            pitch,
+            yaw,
+        },
+        1 => Command::ThrustFloor {
+            thrust,
+            roll,
+            pitch,
+            yaw,
+            floor,
+        },
+        2 => Command::Priority {
+            thrust,
+            roll,
+            pitch,
+            yaw,
+            floor,
+        },
+        3..=255 => Command::Airmode {
+            thrust,
+            roll,
+            pitch,
+            yaw,
+            floor,
+        },
+    }
+}
+
 // The kind and the rotor byte choose the command, which takes its numbers from those of the body, or the refusal.
 fn chosen(kind: u8, rotor: u8, thrust: f32, roll: f32, pitch: f32, yaw: f32, floor: f32) -> Entry
     ensures { λ e. ⌜ Decoded (choiceNumber kind rotor) (commandOf kind rotor thrust roll pitch yaw floor) e ⌝ }
 {
     match kind {
-        0 => match rotor {
-            0 => Entry::Is(Command::Plain {
-                thrust,
-                roll,
-                pitch,
-                yaw,
-            }),
+        0..=3 => match rotor {
+            0 => Entry::Is(unlost(kind, thrust, roll, pitch, yaw, floor)),
             1..=255 => Entry::Refused(Refusal::BadRotor),
         },
-        1 => match rotor {
-            0 => Entry::Is(Command::ThrustFloor {
+        4 => {
+            let failed = match rotor {
+                0..=3 => rotor as usize,
+                4..=255 => NONE_LOST,
+            };
+            Entry::Is(Command::RotorOut {
+                failed,
                 thrust,
                 roll,
                 pitch,
                 yaw,
                 floor,
-            }),
-            1..=255 => Entry::Refused(Refusal::BadRotor),
-        },
-        2 => match rotor {
-            0 => Entry::Is(Command::Priority {
-                thrust,
-                roll,
-                pitch,
-                yaw,
-                floor,
-            }),
-            1..=255 => Entry::Refused(Refusal::BadRotor),
-        },
-        3 => match rotor {
-            0 => Entry::Is(Command::Airmode {
-                thrust,
-                roll,
-                pitch,
-                yaw,
-                floor,
-            }),
-            1..=255 => Entry::Refused(Refusal::BadRotor),
-        },
-        4 => match rotor {
-            0..=3 => Entry::Is(Command::RotorOut {
-                failed: rotor as usize,
-                thrust,
-                roll,
-                pitch,
-                yaw,
-                floor,
-            }),
-            4..=255 => Entry::Is(Command::RotorOut {
-                failed: NONE_LOST,
-                thrust,
-                roll,
-                pitch,
-                yaw,
-                floor,
-            }),
-        },
+            })
+        }
         5..=255 => Entry::Refused(Refusal::BadKind),
     }
 }

@@ -51,33 +51,33 @@ put-then {a} {b} {before} {mid} {after} {at} {place} {next} p q =
       text = q .text ∙ rw (p .text, p .place) (writeAt-append before at a b room);
       place = omega arith;
       few = omega arith;
-      fits = omega arith;
+      inside = omega arith;
     }
 
 -- the place after it lies within the text, or at its end
 pub put-within : {m : ℕ} {part before after : List ℕ} {at next : ℕ} → Put m part before at after next → next ≤ length after
-put-within {part} {before} {at} p = rw (p .text, writeAt-length before at part) (p .fits)
+put-within {part} {before} {at} p = rw (p .text, writeAt-length before at part) (p .inside)
 
 -- a float's digits, written where eight have room
 pub put-hex : (bits : ℕ) {before after : List ℕ} {at : ℕ} → at + 8 ≤ length before → after ≡ writeAt before at (hexOf bits) → Put 8 (hexOf bits) before at after (at + 8)
 put-hex bits h e =
     let eight = hex-eight bits in
-    record { text = e; place = omega arith; few = omega arith; fits = h }
+    record { text = e; place = omega arith; few = omega arith; inside = h }
 
 -- nothing is written by doing nothing
 pub put-nothing : {before : List ℕ} {at : ℕ} → at ≤ length before → Put 0 [] before at before at
 put-nothing {before} {at} h =
-    let fits : at + 0 ≤ length before = omega arith in
+    let end : at + 0 ≤ length before = omega arith in
     record {
-      text = sym (writeAt-fits before at [] fits ∙ rw (append-nil, add-zero) (take-append-drop at before));
+      text = sym (writeAt-fits before at [] end ∙ rw (append-nil, add-zero) (take-append-drop at before));
       place = omega arith;
       few = omega arith;
-      fits = h;
+      inside = h;
     }
 
 -- it has at most any greater count of bytes
 put-most : {m n : ℕ} {part before after : List ℕ} {at next : ℕ} → m ≤ n → Put m part before at after next → Put n part before at after next
-put-most h p = record { text = p .text; place = p .place; few = omega (arith, p .few); fits = p .fits }
+put-most h p = record { text = p .text; place = p .place; few = omega (arith, p .few); inside = p .inside }
 
 -- the line of entry i, and then those of the entries after it
 pub put-lines : (s answers : List ℕ) (i k : ℕ) {before mid after : List ℕ} {at place next : ℕ} → i < k → Put 53 (lineOf s answers i) before at mid place

@@ -64,4 +64,4 @@ pub record Put (most : ℕ) (part before : List ℕ) (at : ℕ) (after : List �
   pub text : after ≡ writeAt before at part
   pub place : next ≡ at + length part
   pub few : length part ≤ most
-  pub fits : next ≤ length before
+  pub inside : next ≤ length before

@@ -16,7 +16,7 @@ use wire::bytes::read_u32;
 // floats has a space and eight digits: 3 + 1 + 3 + 5 * 9 and the LF.
 pub const TEXT: usize = 13515;
 
-// A function named `put` writes a part of what is printed at a place of the text, where it fits, and answers the place after it. This one is given bytes.
+// A function whose name begins with `put` writes a part of what is printed at a place of the text, where it fits, and answers the place after it. This one is given bytes.
 fn put(text: &mut [u8; TEXT], at: usize, part: &[u8]) -> usize
     requires { ⌜ at + length (now part) ≤ textSize ⌝ }
     ensures { λ r. ⌜ Put (length (now (part .entry))) (now (part .entry)) (now (text .entry)) at (now (text .exit)) r ⌝ }

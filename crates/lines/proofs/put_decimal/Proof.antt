@@ -8,7 +8,7 @@ use Rattle.lines.proofs.put_decimal.Tie as tie
 returns : tie.Need-returns
 returns c =
     let few = byte-few {n = c .before .before .args .n} (omega arith) in
-    record { text = c .write-decimal .ensures .0; place = omega arith; few = few; fits = omega arith }
+    record { text = c .write-decimal .ensures .0; place = omega arith; few = few; inside = omega arith }
 
 pub put-decimal-spec : {M : Type 1} → statement M
 put-decimal-spec =

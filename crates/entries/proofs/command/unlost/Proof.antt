@@ -1,0 +1,25 @@
+-- `entries::command::unlost` meets its contract: in each arm the kind is known, so the tests compute. Assumes nothing.
+use mathlib.Core.Path.{_≡_}
+use native.Mathlib.Omega.{arith}
+use Rattle.entries.specs.Entry.{commandOf}
+use Rattle.entries.proofs.command.unlost.Statement.{statement}
+use Rattle.entries.proofs.command.unlost.Tie as tie
+
+returns : tie.Need-returns
+unfolding commandOf
+returns c = rw (c .match .keys1)
+
+returns-2 : tie.Need-returns-2
+unfolding commandOf
+returns-2 c = rw (c .match .keys2)
+
+returns-3 : tie.Need-returns-3
+unfolding commandOf
+returns-3 c = rw (c .match .keys3)
+
+returns-4 : tie.Need-returns-4
+unfolding commandOf
+returns-4 c = let last : c .before .args .kind ≡ 3 = omega (arith, c .match .rest) in rw last
+
+pub unlost-spec : {M : Type 1} → statement M
+unlost-spec = tie.close (tie.spec returns returns-2 returns-3 returns-4)
