@@ -3,7 +3,10 @@
 use lowering::lower_and_limit;
 use number::sanitise;
 use rotors::command::raw_sum;
-use rotors::rows::MIXER_X;
+use rotors::rows::M1;
+use rotors::rows::M2;
+use rotors::rows::M3;
+use rotors::rows::M4;
 ghost use mathlib.Core.Path.{_≡_};
 ghost use Rattle.rules.specs.Rows.{quadRows};
 ghost use Rattle.rules.specs.Plain.{rawSums, plainMotors};
@@ -16,10 +19,10 @@ fn raw_sums(torque_body: [f32; 3], thrust: f32) -> [f32; 4]
     let p = sanitise(torque_body[1]);
     let y = sanitise(torque_body[2]);
     [
-        raw_sum(MIXER_X[0], t, r, p, y),
-        raw_sum(MIXER_X[1], t, r, p, y),
-        raw_sum(MIXER_X[2], t, r, p, y),
-        raw_sum(MIXER_X[3], t, r, p, y),
+        raw_sum(M1, t, r, p, y),
+        raw_sum(M2, t, r, p, y),
+        raw_sum(M3, t, r, p, y),
+        raw_sum(M4, t, r, p, y),
     ]
 }
 

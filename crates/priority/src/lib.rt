@@ -4,7 +4,10 @@ use number::clamp_floor;
 use number::limit;
 use number::sanitise;
 use rotors::command::lift;
-use rotors::rows::MIXER_X;
+use rotors::rows::M1;
+use rotors::rows::M2;
+use rotors::rows::M3;
+use rotors::rows::M4;
 ghost use mathlib.Core.Path.{_≡_};
 ghost use mathlib.Core.List.{map};
 ghost use lib.ListN.{getD};
@@ -32,10 +35,10 @@ fn yaw_groups(y: f32) -> [f32; 4]
 {
     let y = sanitise(y);
     [
-        yaw_group(MIXER_X[0], y),
-        yaw_group(MIXER_X[1], y),
-        yaw_group(MIXER_X[2], y),
-        yaw_group(MIXER_X[3], y),
+        yaw_group(M1, y),
+        yaw_group(M2, y),
+        yaw_group(M3, y),
+        yaw_group(M4, y),
     ]
 }
 
@@ -46,10 +49,10 @@ fn roll_pitch_groups(r: f32, p: f32) -> [f32; 4]
     let r = sanitise(r);
     let p = sanitise(p);
     [
-        roll_pitch_group(MIXER_X[0], r, p),
-        roll_pitch_group(MIXER_X[1], r, p),
-        roll_pitch_group(MIXER_X[2], r, p),
-        roll_pitch_group(MIXER_X[3], r, p),
+        roll_pitch_group(M1, r, p),
+        roll_pitch_group(M2, r, p),
+        roll_pitch_group(M3, r, p),
+        roll_pitch_group(M4, r, p),
     ]
 }
 

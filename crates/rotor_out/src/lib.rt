@@ -5,6 +5,10 @@ use number::clamp_floor;
 use number::limit;
 use number::pick;
 use number::sanitise;
+use rotors::rows::M1;
+use rotors::rows::M2;
+use rotors::rows::M3;
+use rotors::rows::M4;
 use rotors::rows::MIXER_X;
 use solve::solve3;
 ghost use mathlib.Core.Path.{_≡_};
@@ -36,10 +40,10 @@ fn none_lost(floor: f32, t: f32, r: f32, p: f32) -> [f32; 4]
     ensures { λ m. ⌜ m ≡ map (tiltMotor floor t r p) quadRows ⌝ }
 {
     [
-        tilt_motor(floor, t, r, p, MIXER_X[0]),
-        tilt_motor(floor, t, r, p, MIXER_X[1]),
-        tilt_motor(floor, t, r, p, MIXER_X[2]),
-        tilt_motor(floor, t, r, p, MIXER_X[3]),
+        tilt_motor(floor, t, r, p, M1),
+        tilt_motor(floor, t, r, p, M2),
+        tilt_motor(floor, t, r, p, M3),
+        tilt_motor(floor, t, r, p, M4),
     ]
 }
 
@@ -48,9 +52,10 @@ fn equations(failed: usize) -> [[f32; 3]; 3]
     requires { ⌜ failed < 4 ⌝ }
     ensures { λ a. ⌜ a ≡ equations failed ⌝ }
 {
-    let a = MIXER_X[(failed + 1) % 4];
-    let b = MIXER_X[(failed + 2) % 4];
-    let c = MIXER_X[(failed + 3) % 4];
+    let rows = MIXER_X;
+    let a = rows[(failed + 1) % 4];
+    let b = rows[(failed + 2) % 4];
+    let c = rows[(failed + 3) % 4];
     [[1.0, 1.0, 1.0], [a[1], b[1], c[1]], [a[2], b[2], c[2]]]
 }
 

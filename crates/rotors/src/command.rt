@@ -1,5 +1,8 @@
 // What the mixes make of a command before any of them fits it to the motors. Follows relay-mix-quad (Apache-2.0, see NOTICE); changed: functions of their own.
-use crate::rows::MIXER_X;
+use crate::rows::M1;
+use crate::rows::M2;
+use crate::rows::M3;
+use crate::rows::M4;
 use number::pick;
 use number::sanitise;
 ghost use mathlib.Core.Path.{_≡_};
@@ -36,9 +39,9 @@ pub fn deltas(torque_body: [f32; 3]) -> [f32; 4]
     let p = sanitise(torque_body[1]);
     let y = sanitise(torque_body[2]);
     [
-        delta(MIXER_X[0], r, p, y),
-        delta(MIXER_X[1], r, p, y),
-        delta(MIXER_X[2], r, p, y),
-        delta(MIXER_X[3], r, p, y),
+        delta(M1, r, p, y),
+        delta(M2, r, p, y),
+        delta(M3, r, p, y),
+        delta(M4, r, p, y),
     ]
 }

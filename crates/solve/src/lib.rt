@@ -14,13 +14,15 @@ pub struct Solution {
     pub x: [f32; 3],
 }
 
-// Determinant of a 3x3 matrix given by its rows.
+// Determinant of a 3x3 matrix given by its rows, each read once.
 pub fn det3(a: [[f32; 3]; 3]) -> f32
     ensures { λ r. ⌜ r ≡ determinant (entry a) ⌝ }
 {
-    a[0][0] * (a[1][1] * a[2][2] - a[1][2] * a[2][1])
-        - a[0][1] * (a[1][0] * a[2][2] - a[1][2] * a[2][0])
-        + a[0][2] * (a[1][0] * a[2][1] - a[1][1] * a[2][0])
+    let b = a[0];
+    let c = a[1];
+    let d = a[2];
+    b[0] * (c[1] * d[2] - c[2] * d[1]) - b[1] * (c[0] * d[2] - c[2] * d[0])
+        + b[2] * (c[0] * d[1] - c[1] * d[0])
 }
 
 // |x| < SMALL

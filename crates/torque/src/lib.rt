@@ -1,6 +1,9 @@
 // The torque that motors give. Follows relay-mix-quad's `motors_to_torque_signs` (Apache-2.0, see NOTICE); changed: written in Rattle with contracts, the loop
 // written out.
-use rotors::rows::MIXER_X;
+use rotors::rows::M1;
+use rotors::rows::M2;
+use rotors::rows::M3;
+use rotors::rows::M4;
 ghost use mathlib.Core.Path.{_≡_};
 ghost use Rattle.rules.specs.Rows.{quadRows};
 ghost use Prim.Native.Nat.{_<_};
@@ -15,10 +18,10 @@ fn column_sum(column: usize, motors: [f32; 4]) -> f32
     ensures { λ r. ⌜ r ≡ summed (λ row. getD row column nan) 0f quadRows motors ⌝ }
 {
     0.0
-        + MIXER_X[0][column] * motors[0]
-        + MIXER_X[1][column] * motors[1]
-        + MIXER_X[2][column] * motors[2]
-        + MIXER_X[3][column] * motors[3]
+        + M1[column] * motors[0]
+        + M2[column] * motors[1]
+        + M3[column] * motors[2]
+        + M4[column] * motors[3]
 }
 
 // Roll, pitch and yaw sums of the motors by the rows.

@@ -10,13 +10,13 @@ unfolding quadRows rawSums
 returns c =
     simp (
       c .raw-sum4 .ensures,
-      c .before .before .raw-sum3 .ensures,
-      c .before .before .before .before .raw-sum2 .ensures,
-      c .before .before .before .before .before .before .raw-sum .ensures,
-      c .before .before .before .before .before .before .before .before .sanitise4 .ensures,
-      c .before .before .before .before .before .before .before .before .before .sanitise3 .ensures,
-      c .before .before .before .before .before .before .before .before .before .before .sanitise2 .ensures,
-      c .before .before .before .before .before .before .before .before .before .before .before .sanitise .ensures,
+      c .before .raw-sum3 .ensures,
+      c .before .before .raw-sum2 .ensures,
+      c .before .before .before .raw-sum .ensures,
+      c .before .before .before .before .sanitise4 .ensures,
+      c .before .before .before .before .before .sanitise3 .ensures,
+      c .before .before .before .before .before .before .sanitise2 .ensures,
+      c .before .before .before .before .before .before .before .sanitise .ensures,
     )
 
 pub raw-sums-spec : {M : Type 1} → statement M
@@ -30,12 +30,8 @@ raw-sums-spec =
     (λ c κs. search needs)
     (λ c. search needs)
     (λ c κs. search needs)
-    (λ c. search needs)
     (λ c κs. search needs)
-    (λ c. search needs)
     (λ c κs. search needs)
-    (λ c. search needs)
     (λ c κs. search needs)
-    (λ c. search needs)
     (λ c κs. search needs)
     returns)

@@ -9,11 +9,11 @@ unfolding quadRows
 returns c =
     simp (
       c .roll-pitch-group4 .ensures,
-      c .before .before .roll-pitch-group3 .ensures,
-      c .before .before .before .before .roll-pitch-group2 .ensures,
-      c .before .before .before .before .before .before .roll-pitch-group .ensures,
-      c .before .before .before .before .before .before .before .before .sanitise2 .ensures,
-      c .before .before .before .before .before .before .before .before .before .sanitise .ensures,
+      c .before .roll-pitch-group3 .ensures,
+      c .before .before .roll-pitch-group2 .ensures,
+      c .before .before .before .roll-pitch-group .ensures,
+      c .before .before .before .before .sanitise2 .ensures,
+      c .before .before .before .before .before .sanitise .ensures,
     )
 
 pub roll-pitch-groups-spec : {M : Type 1} → statement M
@@ -22,12 +22,8 @@ roll-pitch-groups-spec =
     (tie.spec
     (λ c κs. search needs)
     (λ c κs. search needs)
-    (λ c. search needs)
     (λ c κs. search needs)
-    (λ c. search needs)
     (λ c κs. search needs)
-    (λ c. search needs)
     (λ c κs. search needs)
-    (λ c. search needs)
     (λ c κs. search needs)
     returns)

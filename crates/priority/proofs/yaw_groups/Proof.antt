@@ -9,10 +9,10 @@ unfolding quadRows
 returns c =
     simp (
       c .yaw-group4 .ensures,
-      c .before .before .yaw-group3 .ensures,
-      c .before .before .before .before .yaw-group2 .ensures,
-      c .before .before .before .before .before .before .yaw-group .ensures,
-      c .before .before .before .before .before .before .before .before .sanitise .ensures,
+      c .before .yaw-group3 .ensures,
+      c .before .before .yaw-group2 .ensures,
+      c .before .before .before .yaw-group .ensures,
+      c .before .before .before .before .sanitise .ensures,
     )
 
 pub yaw-groups-spec : {M : Type 1} → statement M
@@ -20,12 +20,8 @@ yaw-groups-spec =
     tie.close
     (tie.spec
     (λ c κs. search needs)
-    (λ c. search needs)
     (λ c κs. search needs)
-    (λ c. search needs)
     (λ c κs. search needs)
-    (λ c. search needs)
     (λ c κs. search needs)
-    (λ c. search needs)
     (λ c κs. search needs)
     returns)

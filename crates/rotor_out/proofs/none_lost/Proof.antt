@@ -9,21 +9,17 @@ unfolding quadRows
 returns c =
     simp (
       c .tilt-motor4 .ensures,
-      c .before .before .tilt-motor3 .ensures,
-      c .before .before .before .before .tilt-motor2 .ensures,
-      c .before .before .before .before .before .before .tilt-motor .ensures,
+      c .before .tilt-motor3 .ensures,
+      c .before .before .tilt-motor2 .ensures,
+      c .before .before .before .tilt-motor .ensures,
     )
 
 pub none-lost-spec : {M : Type 1} → statement M
 none-lost-spec =
     tie.close
     (tie.spec
-    (λ c. search needs)
     (λ c κs. search needs)
-    (λ c. search needs)
     (λ c κs. search needs)
-    (λ c. search needs)
     (λ c κs. search needs)
-    (λ c. search needs)
     (λ c κs. search needs)
     returns)

@@ -14,7 +14,7 @@ use Rattle.torque.proofs.column_sum.Tie as tie
 returns : tie.Need-returns
 unfolding quadRows summed
 returns c =
-    let args = c .before .before .before .before .args in
+    let args = c .args in
     let motors = args .t2 in
     let length : length motors ≡ 4 = omega arith in
     sym (ap (summed (λ (row : Row). getD row (args .column) nan) 0f quadRows) (four motors length))
@@ -23,10 +23,6 @@ pub column-sum-spec : {M : Type 1} → statement M
 column-sum-spec =
     tie.close
     (tie.spec
-    (λ c. search needs)
-    (λ c. search needs)
-    (λ c. search needs)
-    (λ c. search needs)
     (λ c. search needs)
     (λ c. search needs)
     (λ c. search needs)

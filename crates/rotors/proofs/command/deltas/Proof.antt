@@ -10,12 +10,12 @@ unfolding quadRows deltas
 returns c =
     simp (
       c .delta4 .ensures,
-      c .before .before .delta3 .ensures,
-      c .before .before .before .before .delta2 .ensures,
-      c .before .before .before .before .before .before .delta .ensures,
-      c .before .before .before .before .before .before .before .before .sanitise3 .ensures,
-      c .before .before .before .before .before .before .before .before .before .sanitise2 .ensures,
-      c .before .before .before .before .before .before .before .before .before .before .sanitise .ensures,
+      c .before .delta3 .ensures,
+      c .before .before .delta2 .ensures,
+      c .before .before .before .delta .ensures,
+      c .before .before .before .before .sanitise3 .ensures,
+      c .before .before .before .before .before .sanitise2 .ensures,
+      c .before .before .before .before .before .before .sanitise .ensures,
     )
 
 pub deltas-spec : {M : Type 1} → statement M
@@ -28,12 +28,8 @@ deltas-spec =
     (λ c κs. search needs)
     (λ c. search needs)
     (λ c κs. search needs)
-    (λ c. search needs)
     (λ c κs. search needs)
-    (λ c. search needs)
     (λ c κs. search needs)
-    (λ c. search needs)
     (λ c κs. search needs)
-    (λ c. search needs)
     (λ c κs. search needs)
     returns)
