@@ -1,10 +1,10 @@
 // Where the numbers of a sheet stand: version, count and length first, then four bytes for each entry, then the bodies. Entry numbers are bytes, as the count is.
 ghost use mathlib.Core.Path.{_≡_};
 ghost use Rattle.entries.specs.Layout.{versionOf, countOf, lengthField, entryAt, kindOf, rotorOf, offsetOf, bodySize, numberIn};
-use wire::bits::float_of;
-use wire::bytes::byte;
-use wire::bytes::read_u16;
-use wire::bytes::read_u32;
+use bits::float_of;
+use wire::byte;
+use wire::read_u16;
+use wire::read_u32;
 
 // How many bytes an answer takes in the output: four motors and the recorded scale.
 pub const ANSWER: usize = 20;

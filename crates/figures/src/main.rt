@@ -5,6 +5,7 @@
 mod show;
 mod three_sheets;
 
+use bits::float_of;
 use frame::MixerN;
 use multi::Wrench;
 use multi::mix_hex_x;
@@ -12,7 +13,6 @@ use multi::mix_octo_coax;
 use quad::QuadMixer;
 use show::print;
 use show::print_state;
-use wire::bits::float_of;
 
 // 2^24, and 4 more.
 const POWER_24: f32 = 16777216.0;

@@ -1,7 +1,7 @@
 // What is printed.
+use bits::bits_of;
 use libc::STDOUT_FILENO;
 use quad::QuadMixer;
-use wire::bits::bits_of;
 
 // A line: the figure's number, the mix, and what the readers say of the state after it.
 pub fn print_state(figure: u64, mix: &[u8], after: QuadMixer) {

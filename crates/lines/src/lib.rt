@@ -10,7 +10,7 @@ ghost use Rattle.lines.specs.Lines.{wordAt, lineOf, linesOf, refusedLine
 use entries::layout::ANSWER;
 use entries::layout::count;
 use entries::layout::kind;
-use wire::bytes::read_u32;
+use wire::read_u32;
 
 // Room for 255 lines of 53 bytes, so that no count of a sheet is too much. An entry number and a kind are bytes, of three digits at most, and each of the five
 // floats has a space and eight digits: 3 + 1 + 3 + 5 * 9 and the LF.

@@ -60,42 +60,42 @@ pub extern "C" fn probe_clamp_floor(x: f32, lo: f32) -> f32
 pub extern "C" fn probe_float_of(bits: u32) -> f32
     ensures { λ r. ⌜ r ≡ ofBits binary32 bits ⌝ }
 {
-    wire::bits::float_of(bits)
+    bits::float_of(bits)
 }
 
 #[no_mangle]
 pub extern "C" fn probe_bits_of(x: f32) -> u32
     ensures { λ r. ⌜ r ≡ toBits binary32 x ⌝ }
 {
-    wire::bits::bits_of(x)
+    bits::bits_of(x)
 }
 
 #[no_mangle]
 pub extern "C" fn probe_read_u16(s: &[u8], at: usize) -> u16
     ensures { λ r. ⌜ r ≡ readAt 2 (now (s .entry)) at ⌝ }
 {
-    wire::bytes::read_u16(s, at)
+    wire::read_u16(s, at)
 }
 
 #[no_mangle]
 pub extern "C" fn probe_read_u32(s: &[u8], at: usize) -> u32
     ensures { λ r. ⌜ r ≡ readAt 4 (now (s .entry)) at ⌝ }
 {
-    wire::bytes::read_u32(s, at)
+    wire::read_u32(s, at)
 }
 
 #[no_mangle]
 pub extern "C" fn probe_write_u16(out: &mut [u8], at: usize, x: u16)
     ensures { λ _. ⌜ now (out .exit) ≡ writeAt (now (out .entry)) at (bytesOf 2 x) ⌝ }
 {
-    wire::bytes::write_u16(out, at, x);
+    wire::write_u16(out, at, x);
 }
 
 #[no_mangle]
 pub extern "C" fn probe_write_u32(out: &mut [u8], at: usize, x: u32)
     ensures { λ _. ⌜ now (out .exit) ≡ writeAt (now (out .entry)) at (bytesOf 4 x) ⌝ }
 {
-    wire::bytes::write_u32(out, at, x);
+    wire::write_u32(out, at, x);
 }
 
 #[no_mangle]

@@ -3,9 +3,9 @@
 ghost use Prim.Native.Nat.{_+_, _≤_};
 ghost use lib.ListN.{length};
 use crate::mixes;
+use bits::bits_of;
 use quad::QuadMixer;
-use wire::bits::bits_of;
-use wire::words::WORDS;
+use words::WORDS;
 
 // The most words that the inputs of a kind take: a wrench and 64 rows.
 pub const INPUTS: usize = 260;

@@ -4,10 +4,10 @@ use crate::answers::ANSWERS;
 use crate::answers::INPUTS;
 use crate::answers::answer;
 use crate::show::print_difference;
+use bits::float_of;
 use quad::QuadMixer;
-use wire::bits::float_of;
-use wire::bytes::read_u32;
-use wire::words::same;
+use wire::read_u32;
+use words::same;
 
 // How many bytes there is room for: more than a list has.
 pub const ROOM: usize = 524288;

@@ -10,6 +10,7 @@ ghost use Rattle.entries.specs.Layout.{countOf, answerSize};
 ghost use Rattle.rules.specs.Refusals.{accepted};
 ghost use Rattle.sheet.specs.Table.{judged, toldBy};
 ghost use Rattle.sheet_run.specs.Run.{Called, answerOf, judgedFor, commandsOf, ran, answersOf, Ran};
+use bits::bits_of;
 use entries::command::Command;
 use entries::command::Entry;
 use entries::command::read_entry;
@@ -19,8 +20,7 @@ use entries::refusal::Refusal;
 use quad::QuadMixer;
 use sheet::Verdict;
 use sheet::check;
-use wire::bits::bits_of;
-use wire::bytes::write_u32;
+use wire::write_u32;
 
 // What a run answers, and the state afterwards.
 pub struct Outcome {

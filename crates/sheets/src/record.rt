@@ -1,5 +1,7 @@
 // A record of the list: 18 words, then the sheet, the output after the run, and the text that `mixrun` prints. A text that is not compared has length 0.
 ghost use Prim.Native.Nat.{_≤_, _<_};
+use bits::bits_of;
+use bits::float_of;
 use entries::refusal::number;
 use lines::TEXT;
 use quad::QuadMixer;
@@ -7,9 +9,7 @@ use report::text_of;
 use sheet::Verdict;
 use sheet::body;
 use sheet_run::run;
-use wire::bits::bits_of;
-use wire::bits::float_of;
-use wire::bytes::read_u32;
+use wire::read_u32;
 
 // The places of the words.
 const SHEET: usize = 0;

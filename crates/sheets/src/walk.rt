@@ -3,7 +3,7 @@ use crate::record::agrees;
 use crate::record::part;
 use crate::record::size_of;
 use libc::STDOUT_FILENO;
-use wire::bytes::read_u32;
+use wire::read_u32;
 
 // How many bytes there is room for: more than the list has.
 pub const ROOM: usize = 393216;
