@@ -7,7 +7,7 @@ use sheet::Verdict;
 ghost use mathlib.Core.Path.{_≡_};
 ghost use lib.ListN.{length};
 ghost use Rattle.wire.specs.Bytes.{writeAt};
-ghost use Rattle.sheet.specs.Body.{handedBack};
+ghost use Rattle.bodies.specs.Body.{handedBack};
 ghost use Rattle.lines.specs.Lines.{Written};
 ghost use Rattle.report.specs.Report.{printed};
 ghost use Rattle.probes.specs.Sheet.{packed, Probed};
@@ -44,7 +44,7 @@ pub extern "C" fn probe_sheet_run(
 pub extern "C" fn probe_sheet_body(sheet: &[u8], i: usize, out: &mut [u8; 20]) -> usize
     ensures { λ r. ⌜ (r ≡ length (handedBack (now (sheet .entry)) i)) × (now (out .exit) ≡ writeAt (now (out .entry)) 0 (handedBack (now (sheet .entry)) i)) ⌝ }
 {
-    let part = sheet::body(sheet, i);
+    let part = bodies::body(sheet, i);
     text::write(out, 0, part);
     part.len()
 }

@@ -1,18 +1,16 @@
--- Each public contract determines its answer: two results that satisfy it are one. `check`'s says what is told, which tells the cases of the verdict apart. Assumes
--- nothing.
+-- The public contract determines its answer: two results that satisfy it are one. It says what is told, which tells the cases of the verdict apart. Assumes nothing.
 use mathlib.Core.Path.{_≡_, refl, sym, ap, _∙_}
 use mathlib.Core.List.{List}
 use Prim.Native.Nat.{ℕ}
 use borrow.Author.Tests.{eqb-false}
 use Rattle.rules.specs.Refusals.{accepted, Told}
-use Rattle.rules.proofs.Determined.{Determined, equal-determined}
+use Rattle.rules.proofs.Determined.{Determined}
 use Rattle.entries.specs.Refusal.{numberOf}
 use Rattle.entries.proofs.Answers.{never-accepted}
 use Rattle.entries.proofs.Determined.{number-tells}
 use Rattle.sheet.specs.declared.Verdict.{Verdict}
 use Rattle.sheet.specs.declared.Verdict.the-variants.{Accepted, Refused}
 use Rattle.sheet.specs.Table.{judged, toldBy}
-use Rattle.sheet.specs.Body.{handedBack}
 
 -- the paper's number and entry number tell the verdicts apart
 pub verdict-tells : (v w : Verdict) → toldBy v ≡ toldBy w → v ≡ w
@@ -24,12 +22,5 @@ verdict-tells (Refused r i) (Refused q j) e =
 verdict-tells Accepted (Refused q j) e = absurd (eqb-false (numberOf q) accepted (never-accepted q) (sym (ap (λ (t : Told). t .number) e)))
 verdict-tells (Refused r i) Accepted e = absurd (eqb-false (numberOf r) accepted (never-accepted r) (ap (λ (t : Told). t .number) e))
 
--- ---- the public functions
-
-module _ (s : List ℕ) (i : ℕ) where
-  pub check-determined : Determined (λ v. toldBy v ≡ judged s)
-  check-determined v w h k = verdict-tells v w (h ∙ sym k)
-
-  -- the bytes that are handed back
-  pub body-determined : Determined (λ bytes. bytes ≡ handedBack s i)
-  body-determined = equal-determined
+pub check-determined : (s : List ℕ) → Determined (λ v. toldBy v ≡ judged s)
+check-determined s v w h k = verdict-tells v w (h ∙ sym k)

@@ -1,9 +1,8 @@
-// The command sheet as a whole: whether it is accepted, and the body of an entry.
+// The command sheet as a whole: whether it is accepted.
 ghost use mathlib.Core.Path.{_≡_};
 ghost use Rattle.entries.specs.Layout.{countOf};
 ghost use Rattle.entries.specs.Entry.{commandAt, Decoded};
 ghost use Rattle.sheet.specs.Table.{entryNumber, entriesTold, judged, toldBy, answeredAt};
-ghost use Rattle.sheet.specs.Body.{handedBack};
 use entries::command::Entry;
 use entries::command::read_entry;
 use entries::layout::body_size;
@@ -89,20 +88,4 @@ fn answered_at(e: Entry, i: u8) -> Verdict
         Entry::Is(_) => Verdict::Accepted,
         Entry::Refused(r) => Verdict::Refused(r, i),
     }
-}
-
-// The body of entry i, as that part of the sheet; an empty part for a refused sheet and for an entry that it does not have.
-pub fn body(sheet: &[u8], i: usize) -> &[u8]
-    ensures { λ r. ⌜ now r ≡ handedBack (now (sheet .entry)) i ⌝ }
-{
-    let Verdict::Accepted = check(sheet) else {
-        return &sheet[..0];
-    };
-    if i >= count(sheet) as usize {
-        return &sheet[..0];
-    }
-    let entry = i as u8;
-    let at = offset(sheet, entry) as usize;
-    let end = at + body_size(kind(sheet, entry));
-    &sheet[at..end]
 }

@@ -2,12 +2,12 @@
 ghost use Prim.Native.Nat.{_≤_, _<_};
 use bits::bits_of;
 use bits::float_of;
+use bodies::body;
 use entries::refusal::number;
 use lines::TEXT;
 use quad::QuadMixer;
 use report::text_of;
 use sheet::Verdict;
-use sheet::body;
 use sheet_run::run;
 use wire::read_u32;
 

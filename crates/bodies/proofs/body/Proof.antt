@@ -1,4 +1,4 @@
--- `sheet::body` meets its contract: an accepted sheet has the body of each of its entries within it. Assumes nothing.
+-- `bodies::body` meets its contract: an accepted sheet has the body of each of its entries within it. Assumes nothing.
 use mathlib.Core.Path.{_≡_, sym, ap, _∙_}
 use Prim.Native.Nat.{_+_, _-_, _≤_}
 use native.Mathlib.Omega.{arith}
@@ -7,13 +7,13 @@ use borrow.Author.Needs.{needs}
 use Rattle.rules.specs.Refusals.{accepted}
 use Rattle.entries.specs.Layout.{kindOf, bodySize}
 use Rattle.entries.proofs.Answers.{never-accepted}
 use Rattle.sheet.specs.Table.{judged}
-use Rattle.sheet.specs.Body.{bodyOf}
 use Rattle.sheet.proofs.Accepted.{is-accepted}
 use Rattle.sheet.proofs.Verdicts.{accepted-number, refused-number}
-use Rattle.sheet.proofs.Bodies.{body-within, none-refused, none-past, handed-back}
-use Rattle.sheet.proofs.body.Statement.{statement}
-use Rattle.sheet.proofs.body.Tie as tie
+use Rattle.bodies.specs.Body.{bodyOf}
+use Rattle.bodies.proofs.Bodies.{body-within, none-refused, none-past, handed-back}
+use Rattle.bodies.proofs.body.Statement.{statement}
+use Rattle.bodies.proofs.body.Tie as tie
 
 -- the sheet is accepted
 is : (c : tie.After-enum-told) → judged (c .before .before .before .before .args .sheet .now) .number ≡ accepted

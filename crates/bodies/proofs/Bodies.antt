@@ -13,10 +13,10 @@ use lib.Seq.{length-take-le, drop-drop}
 use borrow.Author.Tests.{lt-ltb, le-ltb, eq-eqb}
 use Rattle.rules.specs.Refusals.{accepted}
 use Rattle.entries.specs.Layout.{countOf, entryAt, kindOf, offsetOf, bodySize, bodyAt}
 use Rattle.sheet.specs.Table.{judged}
-use Rattle.sheet.specs.Body.{bodyOf, handedBack}
 use Rattle.sheet.proofs.Walk.{body-first, body-next}
 use Rattle.sheet.proofs.Accepted.{Accepted, is-accepted}
+use Rattle.bodies.specs.Body.{bodyOf, handedBack}
 
 -- ---- within the sheet
 
