@@ -1,1 +1,2 @@
+-- `Nan` has what a test for a NaN tells.
 pub mod Nan

@@ -2,8 +2,8 @@
 ghost use mathlib.Core.Path.{_≡_};
 ghost use Rattle.rules.specs.Rows.{rowAt};
 
-// The quad's rows. They follow relay-mix-quad's MIXER_X (Apache-2.0, see NOTICE); changed: written in Rattle, each with a name, so that a function that writes
-// the four motors out names a row and reads no table.
+// The quad's rows. They follow relay-mix-quad's MIXER_X (Apache-2.0, see NOTICE); changed: written in Rattle, with spins in words; each row has a name, so that a
+// function that writes the four motors out reads no table.
 pub const M1: [f32; 4] = [1.0, -1.0, 1.0, -1.0]; // front-right, clockwise
 
 pub const M2: [f32; 4] = [1.0, -1.0, -1.0, 1.0]; // back-right, counter-clockwise

@@ -1,4 +1,4 @@
--- What the clauses of `src/bytes.rt` cite: numbers as bytes, and their places in a run of bytes. The order is that of document 01,
+-- What the clauses of `src/lib.rt` cite: numbers as bytes, and their places in a run of bytes. The order is that of document 01,
 -- "The command sheet": little-endian. Each definition is over the number of bytes. Assumes nothing.
 use Prim.Native.Nat.{ℕ, zero, suc, _+_, _*_, _/_, _%_}
 use mathlib.Core.Bool.{cond}

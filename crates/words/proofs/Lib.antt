@@ -1,1 +1,2 @@
+-- `Agree` has the laws of `specs/Words.antt`.
 pub mod Agree

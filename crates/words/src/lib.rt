@@ -1,4 +1,4 @@
-// Runs of 128 words.
+// Runs of 128 words, compared: how `replay` holds its answers to those of the list.
 ghost use mathlib.Core.Path.{_≡_};
 ghost use Rattle.words.specs.Words.{agree};
 
