@@ -4,19 +4,20 @@ use mathlib.Core.Bool.{Bool, true, false, cond}
 use mathlib.Core.List.{List, [], _∷_, _++_}
 use mathlib.Core.Logic.{_⊎_, inl, inr}
 use Prim.Native.Nat.{ℕ, zero, suc, _+_, _-_, _≤_, _<_}
-use native.Mathlib.Nat.{add-zero, add-suc, suc-add}
+use native.Mathlib.Nat.{zero-add, add-zero, add-suc, suc-add}
 use native.Mathlib.Numerals.{add-one}
 use native.Mathlib.Omega.{arith}
 use lib.Dec.{eqb}
 use lib.ListN.{length, take, drop, length-drop, drop-of-length-le}
 use lib.Seq.{length-take-le, drop-drop}
+use denote.Ref.{RefT, now, ptr}
 use borrow.Author.Tests.{lt-ltb, le-ltb, eq-eqb}
 use Rattle.rules.specs.Refusals.{accepted}
 use Rattle.entries.specs.Layout.{countOf, entryAt, kindOf, offsetOf, bodySize, bodyAt}
 use Rattle.sheet.specs.Table.{judged}
 use Rattle.sheet.proofs.Walk.{body-first, body-next}
 use Rattle.sheet.proofs.Accepted.{Accepted, is-accepted}
-use Rattle.bodies.specs.Body.{bodyOf, handedBack}
+use Rattle.bodies.specs.Body.{hasBody, bodyOf, handedBack, handedAt, Handed}
 
 -- ---- within the sheet
 
@@ -78,19 +79,32 @@ tiled s known = cut (entryAt (countOf s)) s ∙ ap (λ (l : List ℕ). take (ent
 -- ---- what is handed back
 
 module _ (s : List ℕ) (i : ℕ) where
-  pub none-refused : eqb (judged s .number) accepted ≡ false → handedBack s i ≡ []
-  unfolding handedBack
-  none-refused h = rw h
+  pub none-of-refused : eqb (judged s .number) accepted ≡ false → hasBody s i ≡ false
+  unfolding hasBody
+  none-of-refused h = rw h
 
   module _ (is : judged s .number ≡ accepted) where
-    pub none-past : countOf s ≤ i → handedBack s i ≡ []
-    unfolding handedBack
+    pub none-past : countOf s ≤ i → hasBody s i ≡ false
+    unfolding hasBody
     none-past h = rw (eq-eqb (judged s .number) accepted is, le-ltb i (countOf s))
 
-    pub handed-back : i < countOf s → handedBack s i ≡ bodyOf s i
-    unfolding handedBack
-    handed-back h = rw (eq-eqb (judged s .number) accepted is, lt-ltb i (countOf s))
+    pub body-under : i < countOf s → hasBody s i ≡ true
+    unfolding hasBody
+    body-under h = rw (eq-eqb (judged s .number) accepted is, lt-ltb i (countOf s))
+
+module _ (sheet : RefT (List ℕ)) (i : ℕ) (part : RefT (List ℕ)) where
+  -- an empty part at the sheet's start
+  pub empty-handed : hasBody (now sheet) i ≡ false → now part ≡ [] → ptr part ≡ ptr sheet → Handed sheet i part
+  unfolding handedBack handedAt
+  empty-handed none empty same = record { bytes = rw none empty; block = ap (λ (p : ℕ × ℕ). p .0) same; place = rw (none, zero-add) (ap (λ (p : ℕ × ℕ). p .1) same) }
+
+  -- the body, where it stands
+  pub body-handed : hasBody (now sheet) i ≡ true → now part ≡ bodyOf (now sheet) i → ptr part .0 ≡ ptr sheet .0 → ptr part .1 ≡ offsetOf (now sheet) i + ptr sheet .1
+      → Handed sheet i part
+  unfolding handedBack handedAt
+  body-handed has body block place = record { bytes = rw has body; block = block; place = rw has place }
 
 -- of an accepted sheet, every entry's body is handed back whole: 16 or 20 bytes
 pub handed-length : (s : List ℕ) (i : ℕ) → judged s .number ≡ accepted → i < countOf s → (length (handedBack s i) ≡ 16) ⊎ (length (handedBack s i) ≡ 20)
-handed-length s i is under = rw (handed-back s i is under, body-length (is-accepted s is) i under) (sixteen-or-twenty (kindOf s i))
+unfolding handedBack
+handed-length s i is under = rw (body-under s i is under, body-length (is-accepted s is) i under) (sixteen-or-twenty (kindOf s i))

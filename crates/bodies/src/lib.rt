@@ -1,6 +1,5 @@
 // The body of an entry of a command sheet, which is a part of the sheet.
-ghost use mathlib.Core.Path.{_≡_};
-ghost use Rattle.bodies.specs.Body.{handedBack};
+ghost use Rattle.bodies.specs.Body.{Handed};
 use entries::layout::body_size;
 use entries::layout::count;
 use entries::layout::kind;
@@ -10,7 +9,7 @@ use sheet::check;
 
 // The body of entry i, as that part of the sheet; an empty part for a refused sheet and for an entry that it does not have.
 pub fn body(sheet: &[u8], i: usize) -> &[u8]
-    ensures { λ r. ⌜ now r ≡ handedBack (now (sheet .entry)) i ⌝ }
+    ensures { λ r. ⌜ Handed (sheet .entry) i r ⌝ }
 {
     let Verdict::Accepted = check(sheet) else {
         return &sheet[..0];

@@ -1,5 +1,5 @@
 -- `bodies::body` meets its contract: an accepted sheet has the body of each of its entries within it. Assumes nothing.
-use mathlib.Core.Path.{_≡_, sym, ap, _∙_}
+use mathlib.Core.Path.{_≡_, refl, ap, _∙_}
 use Prim.Native.Nat.{_+_, _-_, _≤_}
 use native.Mathlib.Omega.{arith}
 use lib.ListN.{length}
@@ -11,7 +11,7 @@ use Rattle.sheet.specs.Table.{judged}
 use Rattle.sheet.proofs.Accepted.{is-accepted}
 use Rattle.sheet.proofs.Verdicts.{accepted-number, refused-number}
 use Rattle.bodies.specs.Body.{bodyOf}
-use Rattle.bodies.proofs.Bodies.{body-within, none-refused, none-past, handed-back}
+use Rattle.bodies.proofs.Bodies.{body-within, none-of-refused, none-past, body-under, empty-handed, body-handed}
 use Rattle.bodies.proofs.body.Statement.{statement}
 use Rattle.bodies.proofs.body.Tie as tie
 
@@ -22,13 +22,15 @@ is c = accepted-number (c .before .before .check .ensures) (c .enum-told .given 
 returns : tie.Need-returns
 returns c =
     let told = c .before in
+    let args = told .before .before .before .before .args in
     let number = refused-number (told .before .before .check .ensures) (told .enum-told2 .given .1) in
-    sym (none-refused _ _ (rw number (never-accepted (told .enum-told2 .given .0 .0))))
+    empty-handed (args .sheet) (args .i) _ (none-of-refused _ _ (rw number (never-accepted (told .enum-told2 .given .0 .0)))) refl refl
 
 returns-2 : tie.Need-returns-2
 returns-2 c =
     let past = c .before in
-    sym (none-past _ _ (is (past .before .before)) (rw (past .before .count .ensures) at (past .if1 .taken)))
+    let args = past .before .before .before .before .before .before .args in
+    empty-handed (args .sheet) (args .i) _ (none-past _ _ (is (past .before .before)) (rw (past .before .count .ensures) at (past .if1 .taken))) refl refl
 
 -- the body ends within the sheet
 within : (c : tie.After-body-size) → c .before .before .offset .result + c .body-size .result ≤ length (c .before .before .before .before .before .before .before .before .before .args .sheet .now)
@@ -52,11 +54,12 @@ returns-3 c =
     let at = size .before .before in
     let under = at .before in
     let counted = under .before in
-    let s = counted .before .before .before .before .before .args .sheet .now in
-    let i = counted .before .before .before .before .before .args .i in
+    let args = counted .before .before .before .before .before .args in
+    let s = args .sheet .now in
+    let i = args .i in
     let sized : size .body-size .result ≡ bodySize (kindOf s i) = size .body-size .ensures ∙ ap bodySize (size .before .kind .ensures) in
     let taken : at .offset .result + size .body-size .result - at .offset .result ≡ bodySize (kindOf s i) = omega arith in
-    rw (handed-back s i (is (counted .before)) (rw (counted .count .ensures) at (under .if1 .left)), taken, at .offset .ensures)
+    body-handed (args .sheet) i _ (body-under s i (is (counted .before)) (rw (counted .count .ensures) at (under .if1 .left))) (rw (taken, at .offset .ensures)) refl (rw (at .offset .ensures))
 
 pub body-spec : {M : Type 1} → statement M
 body-spec =

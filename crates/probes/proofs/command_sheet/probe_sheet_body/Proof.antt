@@ -6,7 +6,7 @@ use Rattle.probes.proofs.command_sheet.probe_sheet_body.Statement.{stat
 use Rattle.probes.proofs.command_sheet.probe_sheet_body.Tie as tie
 
 returns : tie.Need-returns
-returns c = let part = c .before .before .body in (ap length (part .ensures), rw (← part .ensures) (c .write .ensures))
+returns c = let bytes = c .before .before .body .ensures .bytes in (ap length bytes, rw (← bytes) (c .write .ensures))
 
 pub probe-sheet-body-spec : {M : Type 1} → statement M
 probe-sheet-body-spec = tie.close (tie.spec (λ c κs. search needs) (λ c κs. search needs) returns)
