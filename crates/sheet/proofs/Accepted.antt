@@ -7,7 +7,7 @@ use native.Mathlib.Nat.{add-zero, add-suc, suc-add, zero-add, not-suc-le-zero, l
 use lib.Dec.{ltb, eqb}
 use lib.ListN.{length}
 use borrow.Author.Tests.{ltb-false, eqb-true, eqb-false, not-false}
-use Rattle.rules.specs.Refusals.{accepted, given}
+use Rattle.rules.specs.Refusals.{accepted}
 use Rattle.rules.proofs.Refusals.{not-given, first-passed, entry-passed}
 use Rattle.entries.specs.Layout.{versionOf, countOf, lengthField, entryAt, kindOf, rotorOf, offsetOf, bodyAt}
 use Rattle.entries.specs.declared.command.Command.{Command}
@@ -16,6 +16,7 @@ use Rattle.entries.specs.declared.refusal.Refusal.{Refusal}
 use Rattle.entries.specs.Refusal.{numberOf}
 use Rattle.entries.specs.Entry.{choiceNumber, Decoded}
 use Rattle.entries.proofs.Answers.{never-accepted, decoded-refusal}
+use Rattle.sheet.proofs.Entry.{same, entry-good}
 use Rattle.sheet.specs.Table.{entryNumber, maxEntries, headNumber, endNumber, entriesTold, judged}
 
 -- what each entry of an accepted sheet is
@@ -32,35 +33,26 @@ pub record Accepted (s : List ℕ) : Type 0 where
   pub entries : (i : ℕ) → i < countOf s → Good s i
   pub ends : bodyAt s (countOf s) ≡ length s
 
--- a test that something differs, not given
-same : (a b n : ℕ) → given (not (eqb a b)) (suc n) ≡ accepted → a ≡ b
-same a b n h = eqb-true a b (not-false (eqb a b) (not-given (not (eqb a b)) n h))
-
 -- ---- an entry
 
 good : (s : List ℕ) (i : ℕ) → entryNumber s i (bodyAt s i) ≡ accepted → Good s i
-unfolding entryNumber choiceNumber
+unfolding choiceNumber
 good s i h =
-    let parts = first-passed _ _ h in
-    let choice = first-passed _ _ (parts .0) in
-    record {
-      chosen = parts .0;
-      kind = ltb-false 4 (kindOf s i) (not-given (ltb 4 (kindOf s i)) 4 (choice .0));
-      offset = same (offsetOf s i) (bodyAt s i) 6 (first-passed _ _ (parts .1) .0);
-    }
+    let (chosen, offset) = entry-good s i (bodyAt s i) h in
+    record { chosen = chosen; kind = ltb-false 4 (kindOf s i) (not-given (ltb 4 (kindOf s i)) 4 (first-passed _ _ chosen .0)); offset = offset }
 
 -- ---- the entries, and the end
 
 entries-good : (s : List ℕ) (i left : ℕ) → entriesTold s i left .number ≡ accepted → (j : ℕ) → j < left → Good s (i + j)
 unfolding entriesTold
 entries-good s i zero h j l = absurd (not-suc-le-zero l)
-entries-good s i (suc left) h zero l = rw add-zero (good s i (entry-passed _ i _ h .0))
-entries-good s i (suc left) h (suc j) l = rw (add-suc, ← suc-add) (entries-good s (suc i) left (entry-passed _ i _ h .1) j (le-of-suc-le-suc l))
+entries-good s i (suc left) h zero l = rw add-zero (good s i (entry-passed _ _ _ h .0))
+entries-good s i (suc left) h (suc j) l = rw (add-suc, ← suc-add) (entries-good s (suc i) left (entry-passed _ _ _ h .1) j (le-of-suc-le-suc l))
 
 end-good : (s : List ℕ) (i left : ℕ) → entriesTold s i left .number ≡ accepted → endNumber s ≡ accepted
 unfolding entriesTold
 end-good s i zero h = h
-end-good s i (suc left) h = end-good s (suc i) left (entry-passed _ i _ h .1)
+end-good s i (suc left) h = end-good s (suc i) left (entry-passed _ _ _ h .1)
 
 -- ---- the sheet
 

@@ -59,7 +59,7 @@ head-most s =
 entries-most : (s : List ℕ) (i left : ℕ) → entriesTold s i left .number ≤ 8
 unfolding entriesTold endNumber
 entries-most s i zero = given-most (not (eqb (bodyAt s (countOf s)) (length s))) 8 (omega arith)
-entries-most s i (suc left) = at-most _ i _ (entry-most s i (bodyAt s i)) (entries-most s (suc i) left)
+entries-most s i (suc left) = at-most _ _ _ (entry-most s i (bodyAt s i)) (entries-most s (suc i) left)
 
 pub judged-most : (s : List ℕ) → judged s .number ≤ 8
 unfolding judged
