@@ -4,7 +4,7 @@ use libc::STDOUT_FILENO;
 use quad::QuadMixer;
 
 // A line: the figure's number, the mix, and what the readers say of the state after it.
-pub fn print_state(figure: u64, mix: &[u8], after: QuadMixer) {
+pub(crate) fn print_state(figure: u64, mix: &[u8], after: QuadMixer) {
     let m = after.last_motors();
     print(
         figure,
@@ -14,7 +14,7 @@ pub fn print_state(figure: u64, mix: &[u8], after: QuadMixer) {
 }
 
 // A line: the figure's number, the mix, and its motors.
-pub fn print(figure: u64, mix: &[u8], motors: &[f32]) {
+pub(crate) fn print(figure: u64, mix: &[u8], motors: &[f32]) {
     print_number(figure);
     io::write_all(STDOUT_FILENO, b" ");
     io::write_all(STDOUT_FILENO, mix);

@@ -39,7 +39,7 @@ const NO_ENTRIES: [u8; 4] = [0x01, 0x00, 0x04, 0x00];
 
 const TOO_MANY: [u8; 4] = [0x01, 0x41, 0x04, 0x00];
 
-pub fn show_all() {
+pub(crate) fn show_all() {
     let one_entry = ONE_ENTRY;
     let no_entries = NO_ENTRIES;
     let too_many = TOO_MANY;

@@ -8,22 +8,22 @@ use quad::QuadMixer;
 use words::WORDS;
 
 // The most words that the inputs of a kind take: a wrench and 64 rows.
-pub const INPUTS: usize = 260;
+pub(crate) const INPUTS: usize = 260;
 
 // The room for its answers, which are compared as a run of words.
-pub const ANSWERS: usize = WORDS;
+pub(crate) const ANSWERS: usize = WORDS;
 
 // What we answer, with zeros after the last word, and the quad's state after the record. No kind has the head where `known` is false.
-pub struct Ours {
-    pub known: bool,
-    pub words: [u32; ANSWERS],
-    pub state: QuadMixer,
+pub(crate) struct Ours {
+    pub(crate) known: bool,
+    pub(crate) words: [u32; ANSWERS],
+    pub(crate) state: QuadMixer,
 }
 
 // Our answer to a record, from its head, its inputs and the state that the record before it left. A head is 0xKKAA_IIII: the kind, how many words the
 // answers take and how many the inputs take. `float_of` has read the inputs and `bits_of` writes the answers, so kind 4, the round trip from bits to bits, has no
 // more to do.
-pub fn answer(head: u32, x: &[f32; INPUTS], state: QuadMixer) -> Ours {
+pub(crate) fn answer(head: u32, x: &[f32; INPUTS], state: QuadMixer) -> Ours {
     match head {
         0x0101_0001 => one(state, number::sanitise(x[0])),
         0x0201_0001 => one(state, number::limit(x[0])),
@@ -42,7 +42,7 @@ pub fn answer(head: u32, x: &[f32; INPUTS], state: QuadMixer) -> Ours {
 }
 
 // Floats as the answers: their bits, and zeros after the last. There is room for 128.
-pub fn words_of(floats: &[f32]) -> [u32; ANSWERS] {
+pub(crate) fn words_of(floats: &[f32]) -> [u32; ANSWERS] {
     let mut words = [0; ANSWERS];
     let mut i = 0;
     while i < ANSWERS && i < floats.len() {
@@ -53,7 +53,7 @@ pub fn words_of(floats: &[f32]) -> [u32; ANSWERS] {
 }
 
 // These answers, and a state that the record did not ask for and so stays.
-pub fn told(words: [u32; ANSWERS], state: QuadMixer) -> Ours {
+pub(crate) fn told(words: [u32; ANSWERS], state: QuadMixer) -> Ours {
     Ours {
         known: true,
         words,

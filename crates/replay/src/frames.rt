@@ -11,7 +11,7 @@ use multi::Answer;
 use multi::Wrench;
 use quad::QuadMixer;
 
-pub fn answer(head: u32, x: &[f32; INPUTS], state: QuadMixer) -> Ours {
+pub(crate) fn answer(head: u32, x: &[f32; INPUTS], state: QuadMixer) -> Ours {
     match head {
         0x1809_0024 => mix_by(state, x, 0),
         0x1909_0024 => mix_by(state, x, 4),

@@ -10,19 +10,19 @@ use wire::read_u32;
 use words::same;
 
 // How many bytes there is room for: more than a list has.
-pub const ROOM: usize = 524288;
+pub(crate) const ROOM: usize = 524288;
 
 // How many of the differences are shown.
 const SHOWN: usize = 4;
 
 // How many records were compared, and how many differences there are.
-pub struct Tally {
-    pub compared: usize,
-    pub differ: usize,
+pub(crate) struct Tally {
+    pub(crate) compared: usize,
+    pub(crate) differ: usize,
 }
 
 // Replays a list, from a new state of the quad on. What is left after the last whole record is one difference, whatever it is.
-pub fn replay(list: &[u8]) -> Tally {
+pub(crate) fn replay(list: &[u8]) -> Tally {
     let mut compared = 0;
     let mut differ = 0;
     let mut at = 4;

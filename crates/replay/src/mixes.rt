@@ -7,7 +7,7 @@ use crate::frames;
 use quad::QuadMixer;
 use quad::motors_to_torque_signs;
 
-pub fn answer(head: u32, x: &[f32; INPUTS], state: QuadMixer) -> Ours {
+pub(crate) fn answer(head: u32, x: &[f32; INPUTS], state: QuadMixer) -> Ours {
     match head {
         0x0905_0005 => read(set(x)),
         0x0a05_0000 => read(QuadMixer::new()),

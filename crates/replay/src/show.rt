@@ -4,7 +4,7 @@ use crate::answers::Ours;
 use crate::list::Tally;
 use libc::STDOUT_FILENO;
 
-pub fn print_tally(tally: Tally) {
+pub(crate) fn print_tally(tally: Tally) {
     print_number(tally.compared);
     io::write_all(STDOUT_FILENO, b" answers compared, ");
     print_number(tally.differ);
@@ -12,7 +12,7 @@ pub fn print_tally(tally: Tally) {
 }
 
 // A record whose answers differ: its number, counted from 0, its head, and both answers.
-pub fn print_difference(number: usize, head: u32, ours: Ours, told: &[u32; ANSWERS]) {
+pub(crate) fn print_difference(number: usize, head: u32, ours: Ours, told: &[u32; ANSWERS]) {
     io::write_all(STDOUT_FILENO, b"record ");
     print_number(number);
     io::write_all(STDOUT_FILENO, b", head");

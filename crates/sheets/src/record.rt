@@ -45,14 +45,14 @@ fn word(record: &[u8], at: usize) -> usize
 }
 
 // How many bytes a record has, by its words.
-pub fn size_of(record: &[u8]) -> usize
+pub(crate) fn size_of(record: &[u8]) -> usize
     ensures { λ r. ⌜ (72 ≤ r) × (r < 17179869184) ⌝ }
 {
     HEAD + word(record, SHEET) + word(record, OUTPUT) + word(record, PRINTED)
 }
 
 // The part of so many bytes from a place on; an empty part where there are not so many.
-pub fn part(s: &[u8], at: usize, size: usize) -> &[u8] {
+pub(crate) fn part(s: &[u8], at: usize, size: usize) -> &[u8] {
     if s.len() < at {
         return &s[..0];
     }
@@ -64,7 +64,7 @@ pub fn part(s: &[u8], at: usize, size: usize) -> &[u8] {
 }
 
 // Whether our answers are those of the record.
-pub fn agrees(record: &[u8]) -> bool {
+pub(crate) fn agrees(record: &[u8]) -> bool {
     let sheet = part(record, HEAD, word(record, SHEET));
     let output_at = HEAD + word(record, SHEET);
     let output = part(record, output_at, word(record, OUTPUT));

@@ -6,16 +6,16 @@ use libc::STDOUT_FILENO;
 use wire::read_u32;
 
 // How many bytes there is room for: more than the list has.
-pub const ROOM: usize = 393216;
+pub(crate) const ROOM: usize = 393216;
 
 // How many sheets were replayed, and how many differ.
-pub struct Tally {
-    pub replayed: usize,
-    pub differ: usize,
+pub(crate) struct Tally {
+    pub(crate) replayed: usize,
+    pub(crate) differ: usize,
 }
 
 // Replays a list. What is left after the last whole record is one difference, whatever it is.
-pub fn replay(list: &[u8]) -> Tally {
+pub(crate) fn replay(list: &[u8]) -> Tally {
     let mut replayed = 0;
     let mut differ = 0;
     let mut at = 4;
