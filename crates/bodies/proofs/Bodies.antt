@@ -1,23 +1,23 @@
 -- The bodies of an accepted sheet: each lies within it and has 16 or 20 bytes, and after the contents they tile it. Assumes nothing.
 use mathlib.Core.Path.{_≡_, refl, ap, _∙_}
-use mathlib.Core.Bool.{Bool, true, false, cond}
+use mathlib.Core.Bool.{Bool, true, false, cond, _&&_, false≢true}
 use mathlib.Core.List.{List, [], _∷_, _++_}
 use mathlib.Core.Logic.{_⊎_, inl, inr}
 use Prim.Native.Nat.{ℕ, zero, suc, _+_, _-_, _≤_, _<_}
-use native.Mathlib.Nat.{zero-add, add-zero, add-suc, suc-add}
+use native.Mathlib.Nat.{add-zero, add-suc, suc-add}
 use native.Mathlib.Numerals.{add-one}
 use native.Mathlib.Omega.{arith}
-use lib.Dec.{eqb}
+use lib.Dec.{ltb, eqb}
 use lib.ListN.{length, take, drop, length-drop, drop-of-length-le}
 use lib.Seq.{length-take-le, drop-drop}
-use denote.Ref.{RefT, now, ptr}
-use borrow.Author.Tests.{lt-ltb, le-ltb, eq-eqb}
+use borrow.Author.Tests.{lt-ltb, le-ltb, eq-eqb, ltb-true, eqb-true}
 use Rattle.rules.specs.Refusals.{accepted}
 use Rattle.entries.specs.Layout.{countOf, entryAt, kindOf, offsetOf, bodySize, bodyAt}
 use Rattle.sheet.specs.Table.{judged}
 use Rattle.sheet.proofs.Walk.{body-first, body-next}
 use Rattle.sheet.proofs.Accepted.{Accepted, is-accepted}
-use Rattle.bodies.specs.Body.{hasBody, bodyOf, handedBack, handedAt, Handed}
+use Rattle.bodies.specs.Body.{hasBody, bodyOf, handedBack, handedAt}
+use Rattle.bodies.specs.Place.{placeOf}
 
 -- ---- within the sheet
 
@@ -92,17 +92,43 @@ module _ (s : List ℕ) (i : ℕ) where
     unfolding hasBody
     body-under h = rw (eq-eqb (judged s .number) accepted is, lt-ltb i (countOf s))
 
-module _ (sheet : RefT (List ℕ)) (i : ℕ) (part : RefT (List ℕ)) where
-  -- an empty part at the sheet's start
-  pub empty-handed : hasBody (now sheet) i ≡ false → now part ≡ [] → ptr part ≡ ptr sheet → Handed sheet i part
-  unfolding handedBack handedAt
-  empty-handed none empty same = record { bytes = rw none empty; block = ap (λ (p : ℕ × ℕ). p .0) same; place = rw (none, zero-add) (ap (λ (p : ℕ × ℕ). p .1) same) }
+-- there is one of an accepted sheet alone, and of its entries
+has-when : (s : List ℕ) (i : ℕ) → hasBody s i ≡ true → (judged s .number ≡ accepted) × (i < countOf s)
+unfolding hasBody
+has-when s i h = go (eqb (judged s .number) accepted) refl h
+  where
+    go : (t : Bool) → eqb (judged s .number) accepted ≡ t → t && ltb i (countOf s) ≡ true → (judged s .number ≡ accepted) × (i < countOf s)
+    go true is under = (eqb-true (judged s .number) accepted is, ltb-true i (countOf s) under)
+    go false is never = absurd (false≢true never)
 
-  -- the body, where it stands
-  pub body-handed : hasBody (now sheet) i ≡ true → now part ≡ bodyOf (now sheet) i → ptr part .0 ≡ ptr sheet .0 → ptr part .1 ≡ offsetOf (now sheet) i + ptr sheet .1
-      → Handed sheet i part
+module _ (s : List ℕ) (i : ℕ) where
+  -- where there is none, an empty part at the start
+  pub none-placed : hasBody s i ≡ false → placeOf s i ≡ record { at = 0; size = 0 }
   unfolding handedBack handedAt
-  body-handed has body block place = record { bytes = rw has body; block = block; place = rw has place }
+  none-placed none = rw none
+
+  -- else the body, where it stands
+  pub body-placed : hasBody s i ≡ true → placeOf s i ≡ record { at = offsetOf s i; size = bodySize (kindOf s i) }
+  unfolding handedBack handedAt
+  body-placed has = let when = has-when s i has in rw (has, body-length (is-accepted s (when .0)) i (when .1))
+
+  -- a part that lies within the sheet
+  pub place-within : handedAt s i + length (handedBack s i) ≤ length s
+  unfolding handedBack handedAt
+  place-within = go (hasBody s i) refl
+    where
+      go : (t : Bool) → hasBody s i ≡ t → cond t (offsetOf s i) 0 + length (cond t (bodyOf s i) []) ≤ length s
+      go true has = let when = has-when s i has in let known = is-accepted s (when .0) in rw (body-length known i (when .1)) (body-within known i (when .1))
+      go false none = omega arith
+
+  -- and has the bytes that are handed back
+  pub place-bytes : take (length (handedBack s i)) (drop (handedAt s i) s) ≡ handedBack s i
+  unfolding handedBack handedAt bodyOf
+  place-bytes = go (hasBody s i) refl
+    where
+      go : (t : Bool) → hasBody s i ≡ t → take (length (cond t (bodyOf s i) [])) (drop (cond t (offsetOf s i) 0) s) ≡ cond t (bodyOf s i) []
+      go true has = let when = has-when s i has in rw (body-length (is-accepted s (when .0)) i (when .1))
+      go false none = refl
 
 -- of an accepted sheet, every entry's body is handed back whole: 16 or 20 bytes
 pub handed-length : (s : List ℕ) (i : ℕ) → judged s .number ≡ accepted → i < countOf s → (length (handedBack s i) ≡ 16) ⊎ (length (handedBack s i) ≡ 20)
