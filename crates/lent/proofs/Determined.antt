@@ -1,0 +1,59 @@
+-- Each public contract determines its answer and the five floats of the state: two results that satisfy it are one, by bits. Assumes nothing.
+use mathlib.Core.Path.{_≡_, sym, ap, _∙_}
+use mathlib.Core.List.{List}
+use Prim.Native.Nat.{ℕ}
+use lib.Ieee.{Float}
+use Rattle.binary32.specs.Arithmetic.{1f}
+use Rattle.rules.specs.Rows.{quadRows}
+use Rattle.rules.specs.Plain.{plainMotors}
+use Rattle.rules.specs.ThrustFloor.{thrustFloorScale, thrustFloorMotors}
+use Rattle.rules.specs.Priority.{priorityMotors}
+use Rattle.rules.specs.Airmode.{airmodeMotors}
+use Rattle.rules.specs.RotorOut.{rotorOutMotors}
+use Rattle.rules.specs.Promises.{PlainKeeps, ThrustFloorKeeps, PriorityKeeps, AirmodeKeeps, RotorOutKeeps}
+use Rattle.rules.proofs.Determined.{Determined, equal-determined}
+use Rattle.quad.specs.declared.QuadMixer.{QuadMixer}
+use Rattle.quad.specs.State.{fresh, Mixed}
+use Rattle.quad.proofs.Determined.{mix-determined, mix-thrust-floor-determined, mix-priority-determined, mix-airmode-determined, mix-rotor-out-determined}
+use Rattle.sheet.specs.declared.Verdict.{Verdict}
+use Rattle.sheet_run.specs.Run.{Ran}
+use Rattle.sheet_run.proofs.Determined.{run-determined}
+use Rattle.lent.specs.Five.{motorsIn, scaleIn, mixer, five, FloatsOf}
+
+-- where a contract determines the state, it determines the floats
+pub floats-determined : {P : QuadMixer → Type 0} → Determined P → Determined (FloatsOf P)
+floats-determined one r q h k = h .floats-are ∙ ap five (one (h .state) (k .state) (h .holds) (k .holds)) ∙ sym (k .floats-are)
+
+-- ---- the public functions
+
+module _ (torque before : List Float) (thrust floor : Float) (failed : ℕ) where
+  pub fresh-determined : Determined (λ r. r ≡ five fresh)
+  fresh-determined = equal-determined
+
+  pub last-motors-determined : Determined (λ r. r ≡ motorsIn before)
+  last-motors-determined = equal-determined
+
+  pub last-torque-scale-determined : Determined (λ r. r ≡ scaleIn before)
+  last-torque-scale-determined = equal-determined
+
+  pub mix-floats-determined : Determined (FloatsOf (Mixed (plainMotors quadRows torque thrust) (scaleIn before) (λ motors scale. PlainKeeps torque thrust motors)))
+  mix-floats-determined = floats-determined (mix-determined torque before thrust floor failed (mixer before))
+
+  pub mix-thrust-floor-floats-determined : Determined (FloatsOf (Mixed (thrustFloorMotors quadRows torque thrust floor) (thrustFloorScale quadRows torque thrust floor) (ThrustFloorKeeps quadRows torque thrust floor)))
+  mix-thrust-floor-floats-determined = floats-determined (mix-thrust-floor-determined torque before thrust floor failed (mixer before))
+
+  pub mix-priority-floats-determined : Determined (FloatsOf (Mixed (priorityMotors quadRows torque thrust floor) (scaleIn before) (λ motors scale. PriorityKeeps quadRows torque thrust floor motors)))
+  mix-priority-floats-determined = floats-determined (mix-priority-determined torque before thrust floor failed (mixer before))
+
+  pub mix-airmode-floats-determined : Determined (FloatsOf (Mixed (airmodeMotors quadRows torque thrust floor) (scaleIn before) (λ motors scale. AirmodeKeeps quadRows torque thrust floor motors)))
+  mix-airmode-floats-determined = floats-determined (mix-airmode-determined torque before thrust floor failed (mixer before))
+
+  pub mix-rotor-out-floats-determined : Determined (FloatsOf (Mixed (rotorOutMotors failed torque thrust floor) 1f (λ motors scale. RotorOutKeeps failed floor motors)))
+  mix-rotor-out-floats-determined = floats-determined (mix-rotor-out-determined torque before thrust floor failed (mixer before))
+
+-- the verdict, the floats and the output
+pub run-floats-determined : (s : List ℕ) (before : List Float) (out : List ℕ) (v w : Verdict) (after other : List Float) (written put : List ℕ)
+    → FloatsOf (λ q. Ran s (mixer before) out v q written) after → FloatsOf (λ q. Ran s (mixer before) out w q put) other → (v ≡ w) × (after ≡ other) × (written ≡ put)
+run-floats-determined s before out v w after other written put h k =
+    let one = run-determined s (mixer before) out v w (h .state) (k .state) written put (h .holds) (k .holds) in
+    (one .0, h .floats-are ∙ ap five (one .1) ∙ sym (k .floats-are), one .2)

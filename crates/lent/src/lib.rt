@@ -1,0 +1,2 @@
+// The quad's state lent by the caller and updated where it stands.
+pub mod floats;
