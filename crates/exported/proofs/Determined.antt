@@ -1,0 +1,95 @@
+-- Each exported function's contract determines what it answers and all that it writes: two results that satisfy it are one, by bits. Those of the quad are the
+-- contracts of `lent::floats`, over what is lent, and are determined there. Assumes nothing.
+use mathlib.Core.Path.{_≡_, sym, ap, _∙_}
+use mathlib.Core.List.{List}
+use Prim.Native.Nat.{ℕ}
+use lib.ListN.{length}
+use lib.Ieee.{Float}
+use Rattle.number.specs.Treat.{unitClamp}
+use Rattle.rules.specs.Refusals.{Told}
+use Rattle.rules.specs.Rows.{quadRows, quadXRows, runOf, rowsOf, hexRows, octoRows}
+use Rattle.rules.specs.Torque.{torqueOf, achieved}
+use Rattle.rules.proofs.Determined.{Determined, equal-determined}
+use Rattle.frame.specs.declared.MixerN.{MixerN}
+use Rattle.frame.specs.Mixer.{made, Mixed}
+use Rattle.frame.proofs.Determined as frame-determined
+use Rattle.multi.specs.Wrench.{numberOf, Allocated}
+use Rattle.multi.proofs.Determined as multi-determined
+use Rattle.sheet.specs.Table.{judged, toldBy}
+use Rattle.bodies.specs.Body.{handedBack, handedAt}
+use Rattle.lent.proofs.Determined.{run-floats-determined}
+use Rattle.exported.specs.Passed.{passed, wrench, told, Numbered, RanAs}
+
+-- two numbers that are told alike are the same
+same-told : (n m i j : ℕ) → told n i ≡ told m j → (n ≡ m) × (i ≡ j)
+same-told n m i j e = (ap (λ (t : Told). t .number) e, ap (λ (t : Told). t .entry) e)
+
+-- ---- the quad
+
+pub motors-to-torque-signs-determined : (motors : List Float) → Determined (λ sums. sums ≡ torqueOf quadRows motors)
+motors-to-torque-signs-determined motors = equal-determined
+
+-- ---- `MixerN`: the count that is answered, and the matrix
+
+passed-determined : (mixer : MixerN) (n m : ℕ) (mix other : List Float) → passed mix n ≡ mixer → passed other m ≡ mixer → (n ≡ m) × (mix ≡ other)
+passed-determined mixer n m mix other h k = let e = h ∙ sym k in (ap (λ (x : MixerN). x .n) e, ap (λ (x : MixerN). x .mix) e)
+
+module _ (rows torque motors : List Float) (thrust : Float) (count n m : ℕ) (mix other : List Float) where
+  pub mixer-n-new-determined : passed mix n ≡ made rows count → passed other m ≡ made rows count → (n ≡ m) × (mix ≡ other)
+  mixer-n-new-determined = passed-determined (made rows count) n m mix other
+
+  pub mixer-n-quad-x-determined : passed mix n ≡ made (runOf quadXRows) 4 → passed other m ≡ made (runOf quadXRows) 4 → (n ≡ m) × (mix ≡ other)
+  mixer-n-quad-x-determined = passed-determined (made (runOf quadXRows) 4) n m mix other
+
+  pub mixer-n-mix-determined : Determined (Mixed (rowsOf mix) torque thrust)
+  mixer-n-mix-determined = frame-determined.mix-determined mix torque motors thrust n (passed mix n)
+
+  pub mixer-n-achieved-wrench-determined : Determined (λ w. w ≡ achieved (rowsOf mix) motors)
+  mixer-n-achieved-wrench-determined = equal-determined
+
+-- ---- 001
+
+module _ (x : Float) (run w before : List Float) where
+  pub clamp01-determined : Determined (λ r. r ≡ unitClamp x)
+  clamp01-determined = equal-determined
+
+  -- the number, and what the outputs are afterwards
+  pub mixer-mix-determined : (n m : ℕ) (after other : List Float) → Numbered run (wrench w) before n after → Numbered run (wrench w) before m other → (n ≡ m) × (after ≡ other)
+  mixer-mix-determined n m after other h k =
+      let one = multi-determined.mix-determined x run before (wrench w) (h .answer) (k .answer) after other (h .mixed) (k .mixed) in
+      (h .number-is ∙ ap numberOf (one .0) ∙ sym (k .number-is), one .1)
+
+  pub hex-x-determined : Determined (λ rows. rows ≡ runOf hexRows)
+  hex-x-determined = equal-determined
+
+  pub octo-coax-determined : Determined (λ rows. rows ≡ runOf octoRows)
+  octo-coax-determined = equal-determined
+
+  pub mix-hex-x-determined : Determined (Allocated hexRows (wrench w))
+  mix-hex-x-determined = multi-determined.mix-hex-x-determined x run before (wrench w)
+
+  pub mix-octo-coax-determined : Determined (Allocated octoRows (wrench w))
+  mix-octo-coax-determined = multi-determined.mix-octo-coax-determined x run before (wrench w)
+
+-- ---- the sheet: numbers that are answered, then numbers that are stored
+
+module _ (s : List ℕ) (n m i j : ℕ) where
+  pub sheet-check-determined : told n i ≡ judged s → told m j ≡ judged s → (n ≡ m) × (i ≡ j)
+  sheet-check-determined h k = same-told n m i j (h ∙ sym k)
+
+  -- here n and m are lengths, and i and j offsets, of the body of entry e
+  pub sheet-body-determined : (e : ℕ)
+      → (n ≡ length (handedBack s e)) × (i ≡ handedAt s e)
+      → (m ≡ length (handedBack s e)) × (j ≡ handedAt s e)
+      → (n ≡ m) × (i ≡ j)
+  sheet-body-determined e h k = (equal-determined n m (h .0) (k .0), equal-determined i j (h .1) (k .1))
+
+  -- and the state's five floats and the output
+  pub sheet-run-determined : (before : List Float) (out : List ℕ) (after other : List Float) (written put : List ℕ)
+      → RanAs s before out n i after written
+      → RanAs s before out m j other put
+      → (n ≡ m) × (i ≡ j) × (after ≡ other) × (written ≡ put)
+  sheet-run-determined before out after other written put h k =
+      let one = run-floats-determined s before out (h .verdict) (k .verdict) after other written put (h .ran) (k .ran) in
+      let numbers = same-told n m i j (h .told-is ∙ ap toldBy (one .0) ∙ sym (k .told-is)) in
+      (numbers .0, numbers .1, one .1, one .2)

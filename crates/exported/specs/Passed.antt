@@ -1,0 +1,39 @@
+-- How structs and enums pass to C and back: as floats and numbers. Definitions only.
+use mathlib.Core.Path.{_≡_}
+use mathlib.Core.List.{List}
+use Prim.Native.Nat.{ℕ}
+use lib.ListN.{getD}
+use lib.Ieee.{Float, nan}
+use Rattle.rules.specs.Refusals.{Told}
+use Rattle.frame.specs.declared.MixerN.{MixerN}
+use Rattle.multi.specs.declared.Wrench.{Wrench}
+use Rattle.multi.specs.declared.Answer.{Answer}
+use Rattle.multi.specs.Wrench.{numberOf, Mixed}
+use Rattle.sheet.specs.declared.Verdict.{Verdict}
+use Rattle.sheet.specs.Table.{toldBy}
+use Rattle.sheet_run.specs.Run.{Ran}
+use Rattle.lent.specs.Five.{mixer, FloatsOf}
+
+-- the mixer of a matrix and a count
+abbrev pub passed : List Float → ℕ → MixerN
+passed matrix count = record { mix = matrix; n = count }
+
+-- the wrench that four floats are: thrust, roll, pitch and yaw
+abbrev pub wrench : List Float → Wrench
+wrench v = record { thrust = getD v 0 nan; roll = getD v 1 nan; pitch = getD v 2 nan; yaw = getD v 3 nan }
+
+-- what a sheet is told, as document 01's number and the entry number
+abbrev pub told : ℕ → ℕ → Told
+told number entry = record { number = number; entry = entry }
+
+-- `multi::mix`, whose answer passes as document 01's number
+pub record Numbered (run : List Float) (w : Wrench) (before : List Float) (number : ℕ) (after : List Float) : Type 0 where
+  pub answer : Answer
+  pub number-is : number ≡ numberOf answer
+  pub mixed : Mixed run w before answer after
+
+-- a run of a sheet from the state that five floats are, whose verdict passes as its two numbers and whose state as its five floats
+pub record RanAs (s : List ℕ) (before : List Float) (out : List ℕ) (number : ℕ) (entry : ℕ) (after : List Float) (written : List ℕ) : Type 0 where
+  pub verdict : Verdict
+  pub told-is : told number entry ≡ toldBy verdict
+  pub ran : FloatsOf (λ q. Ran s (mixer before) out verdict q written) after
