@@ -1,12 +1,14 @@
-//! Links the archive whose folder compare/run names in PROBES, again whenever it changes. For the
-//! program `list`, which has nothing of ours, it names none.
+//! Links the two archives of ours, which stand in the folder that compare/run names in ARCHIVES, again
+//! whenever they change. For the program `list`, which has nothing of ours, it names none.
 
 fn main() {
-    println!("cargo:rerun-if-env-changed=PROBES");
-    let Ok(folder) = std::env::var("PROBES") else {
+    println!("cargo:rerun-if-env-changed=ARCHIVES");
+    let Ok(folder) = std::env::var("ARCHIVES") else {
         return;
     };
-    println!("cargo:rerun-if-changed={folder}/libprobes.a");
     println!("cargo:rustc-link-search=native={folder}");
-    println!("cargo:rustc-link-lib=static=probes");
+    for name in ["exported", "probes"] {
+        println!("cargo:rerun-if-changed={folder}/lib{name}.a");
+        println!("cargo:rustc-link-lib=static={name}");
+    }
 }

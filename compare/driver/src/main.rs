@@ -14,6 +14,7 @@ mod chosen_sheets;
 mod commands;
 mod compare;
 mod damaged;
+mod exported;
 mod findings;
 mod frame_table;
 mod frames;

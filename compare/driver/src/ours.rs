@@ -1,8 +1,9 @@
-//! Our functions, as the crate `probes` exports them: a slice passes as a pointer and then a
-//! length, a reference to an array as a pointer. Nothing checks these declarations against the
-//! Rattle source. The calls are all that is unsafe in this program.
+//! Our functions: the inner ones as the crate `probes` exports them, declared here as those of
+//! `exported` are in exported.rs, and then the public ones as `exported` does. The calls, and those of
+//! ours_sheet.rs, are all that is unsafe in this program.
 
 use crate::commands::{Call, Mix, State};
+use crate::exported;
 use crate::frames::{Frame, Wrench};
 use crate::inputs::LENT;
 use crate::lent::{After, Lent, MOST_LENT};
@@ -30,71 +31,6 @@ mod probes {
         pub fn probe_read_u32(s: *const u8, n: usize, at: usize) -> u32;
         pub fn probe_write_u16(out: *mut u8, n: usize, at: usize, x: u16);
         pub fn probe_write_u32(out: *mut u8, n: usize, at: usize, x: u32);
-        pub fn probe_quad_new(out: *mut [f32; 5]);
-        pub fn probe_quad_readers(state: *const [f32; 5], out: *mut [f32; 5]);
-        pub fn probe_quad_mix(
-            state: *const [f32; 5],
-            torque: *const [f32; 3],
-            thrust: f32,
-            out: *mut [f32; 5],
-        );
-        pub fn probe_quad_mix_thrust_floor(
-            state: *const [f32; 5],
-            torque: *const [f32; 3],
-            thrust: f32,
-            floor: f32,
-            out: *mut [f32; 5],
-        );
-        pub fn probe_quad_mix_priority(
-            state: *const [f32; 5],
-            torque: *const [f32; 3],
-            thrust: f32,
-            floor: f32,
-            out: *mut [f32; 5],
-        );
-        pub fn probe_quad_mix_airmode(
-            state: *const [f32; 5],
-            torque: *const [f32; 3],
-            thrust: f32,
-            idle: f32,
-            out: *mut [f32; 5],
-        );
-        pub fn probe_quad_mix_rotor_out(
-            state: *const [f32; 5],
-            failed: usize,
-            torque: *const [f32; 3],
-            thrust: f32,
-            floor: f32,
-            out: *mut [f32; 5],
-        );
-        pub fn probe_quad_motors_to_torque_signs(motors: *const [f32; 4], out: *mut [f32; 3]);
-        pub fn probe_frame_new(mix: *const [f32; 32], n: usize, out: *mut [f32; 32]) -> usize;
-        pub fn probe_frame_quad_x(out: *mut [f32; 32]) -> usize;
-        pub fn probe_frame_mix(
-            mix: *const [f32; 32],
-            n: usize,
-            torque: *const [f32; 3],
-            thrust: f32,
-            out: *mut [f32; 8],
-        );
-        pub fn probe_frame_achieved_wrench(
-            mix: *const [f32; 32],
-            n: usize,
-            motors: *const [f32; 8],
-            out: *mut [f32; 4],
-        );
-        pub fn probe_multi_clamp01(x: f32) -> f32;
-        pub fn probe_multi_mix(
-            rows: *const f32,
-            rows_len: usize,
-            wrench: *const [f32; 4],
-            out: *mut f32,
-            out_len: usize,
-        ) -> u32;
-        pub fn probe_multi_hex_x(out: *mut [f32; 24]);
-        pub fn probe_multi_octo_coax(out: *mut [f32; 32]);
-        pub fn probe_multi_mix_hex_x(wrench: *const [f32; 4], out: *mut [f32; 6]);
-        pub fn probe_multi_mix_octo_coax(wrench: *const [f32; 4], out: *mut [f32; 8]);
     }
 }
 
@@ -188,19 +124,22 @@ pub fn write_u32(out: &mut [u8], at: usize, x: u32) {
 
 #[inline]
 pub fn quad_new() -> State {
-    let mut out = [LENT; 5];
-    unsafe { probes::probe_quad_new(&mut out) };
-    out
+    let mut state = [LENT; 5];
+    unsafe { exported::footspandle_quad_new(&mut state) };
+    state
 }
 
+/// What the two readers give.
 #[inline]
 pub fn quad_readers(state: &State) -> State {
-    let mut out = [LENT; 5];
-    unsafe { probes::probe_quad_readers(state, &mut out) };
-    out
+    let mut motors = [LENT; 4];
+    unsafe { exported::footspandle_quad_last_motors(state, &mut motors) };
+    let scale = unsafe { exported::footspandle_quad_last_torque_scale(state) };
+    let [a, b, c, d] = motors;
+    [a, b, c, d, scale]
 }
 
-/// The state after a call.
+/// The state after a call, which updates it where it stands.
 #[inline]
 pub fn quad_mixed(state: &State, call: &Call) -> State {
     let Call {
@@ -209,27 +148,29 @@ pub fn quad_mixed(state: &State, call: &Call) -> State {
         floor,
         ..
     } = *call;
-    let mut out = [LENT; 5];
-    let (from, to) = (&torque, &mut out);
+    let mut lent = *state;
+    let (at, from) = (&mut lent, &torque);
     unsafe {
         match call.mix {
-            Mix::Plain => probes::probe_quad_mix(state, from, thrust, to),
-            Mix::ThrustFloor => probes::probe_quad_mix_thrust_floor(state, from, thrust, floor, to),
-            Mix::Priority => probes::probe_quad_mix_priority(state, from, thrust, floor, to),
-            Mix::Airmode => probes::probe_quad_mix_airmode(state, from, thrust, floor, to),
+            Mix::Plain => exported::footspandle_quad_mix(at, from, thrust),
+            Mix::ThrustFloor => {
+                exported::footspandle_quad_mix_thrust_floor(at, from, thrust, floor)
+            }
+            Mix::Priority => exported::footspandle_quad_mix_priority(at, from, thrust, floor),
+            Mix::Airmode => exported::footspandle_quad_mix_airmode(at, from, thrust, floor),
             Mix::RotorOut => {
-                probes::probe_quad_mix_rotor_out(state, call.rotor, from, thrust, floor, to)
+                exported::footspandle_quad_mix_rotor_out(at, call.rotor, from, thrust, floor)
             }
         }
     }
-    out
+    lent
 }
 
 #[inline]
 pub fn torque_signs(motors: &[f32; 4]) -> [f32; 3] {
-    let mut out = [LENT; 3];
-    unsafe { probes::probe_quad_motors_to_torque_signs(motors, &mut out) };
-    out
+    let mut sums = [LENT; 3];
+    unsafe { exported::footspandle_motors_to_torque_signs(motors, &mut sums) };
+    sums
 }
 
 // ---- any airframe
@@ -238,37 +179,37 @@ pub fn torque_signs(motors: &[f32; 4]) -> [f32; 3] {
 #[inline]
 pub fn frame_new(f: &Frame) -> Frame {
     let mut run = [LENT; 32];
-    let count = unsafe { probes::probe_frame_new(&f.run, f.count, &mut run) };
+    let count = unsafe { exported::footspandle_mixer_n_new(&f.run, f.count, &mut run) };
     Frame { run, count }
 }
 
 #[inline]
 pub fn quad_x() -> Frame {
     let mut run = [LENT; 32];
-    let count = unsafe { probes::probe_frame_quad_x(&mut run) };
+    let count = unsafe { exported::footspandle_mixer_n_quad_x(&mut run) };
     Frame { run, count }
 }
 
 #[inline]
 pub fn frame_mix(f: &Frame, &[thrust, roll, pitch, yaw]: &Wrench) -> [f32; 8] {
-    let mut out = [LENT; 8];
+    let mut motors = [LENT; 8];
     let torque = [roll, pitch, yaw];
-    unsafe { probes::probe_frame_mix(&f.run, f.count, &torque, thrust, &mut out) };
-    out
+    unsafe { exported::footspandle_mixer_n_mix(&f.run, f.count, &torque, thrust, &mut motors) };
+    motors
 }
 
 #[inline]
 pub fn achieved_wrench(f: &Frame, motors: &[f32; 8]) -> Wrench {
-    let mut out = [LENT; 4];
-    unsafe { probes::probe_frame_achieved_wrench(&f.run, f.count, motors, &mut out) };
-    out
+    let mut wrench = [LENT; 4];
+    unsafe { exported::footspandle_mixer_n_achieved_wrench(&f.run, f.count, motors, &mut wrench) };
+    wrench
 }
 
 // ---- 001
 
 #[inline]
 pub fn clamp01(x: f32) -> f32 {
-    unsafe { probes::probe_multi_clamp01(x) }
+    unsafe { exported::footspandle_clamp01(x) }
 }
 
 /// The number that a call answers, and the room for outputs afterwards, of which a part is lent.
@@ -277,7 +218,7 @@ pub fn lent_mix(l: &Lent) -> After {
     let mut out = [LENT; MOST_LENT];
     let (rows, part) = (l.rows(), &mut out[..l.outputs]);
     let number = unsafe {
-        probes::probe_multi_mix(
+        exported::footspandle_mixer_mix(
             rows.as_ptr(),
             rows.len(),
             &l.wrench,
@@ -291,27 +232,27 @@ pub fn lent_mix(l: &Lent) -> After {
 #[inline]
 pub fn hex_x_run() -> [f32; 24] {
     let mut run = [LENT; 24];
-    unsafe { probes::probe_multi_hex_x(&mut run) };
+    unsafe { exported::footspandle_hex_x(&mut run) };
     run
 }
 
 #[inline]
 pub fn octo_coax_run() -> [f32; 32] {
     let mut run = [LENT; 32];
-    unsafe { probes::probe_multi_octo_coax(&mut run) };
+    unsafe { exported::footspandle_octo_coax(&mut run) };
     run
 }
 
 #[inline]
 pub fn hex_x_mix(wrench: &Wrench) -> [f32; 6] {
     let mut out = [LENT; 6];
-    unsafe { probes::probe_multi_mix_hex_x(wrench, &mut out) };
+    unsafe { exported::footspandle_mix_hex_x(wrench, &mut out) };
     out
 }
 
 #[inline]
 pub fn octo_coax_mix(wrench: &Wrench) -> [f32; 8] {
     let mut out = [LENT; 8];
-    unsafe { probes::probe_multi_mix_octo_coax(wrench, &mut out) };
+    unsafe { exported::footspandle_mix_octo_coax(wrench, &mut out) };
     out
 }

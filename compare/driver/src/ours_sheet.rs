@@ -1,24 +1,20 @@
-//! Our command sheet, as the crate `probes` exports it: see ours.rs.
+//! Our command sheet, as the crate `exported` gives it to C, and its text, which `probes` does: see
+//! ours.rs.
 
 use crate::commands::State;
-use crate::inputs::LENT;
-use crate::sheet::Ran;
-use crate::sheet_table::{Body, Side};
+use crate::exported;
+use crate::sheet::{Ran, Told};
+use crate::sheet_table::{Place, Side};
 
 /// Room for a text.
 const TEXT: usize = 13515;
 
+/// What stands in a lent number before a call: no entry has it, and no part begins there.
+const LENT_ENTRY: u32 = u32::MAX;
+const LENT_PLACE: usize = usize::MAX;
+
 mod probes {
     extern "C" {
-        pub fn probe_sheet_run(
-            sheet: *const u8,
-            n: usize,
-            state: *const [f32; 5],
-            out: *mut u8,
-            m: usize,
-            after: *mut [f32; 5],
-        ) -> u32;
-        pub fn probe_sheet_body(sheet: *const u8, n: usize, i: usize, out: *mut [u8; 20]) -> usize;
         pub fn probe_sheet_text(sheet: *const u8, n: usize, text: *mut [u8; super::TEXT]) -> usize;
     }
 }
@@ -27,32 +23,40 @@ mod probes {
 pub struct Ours;
 
 impl Side for Ours {
-    /// The answer is the number and 256 times the entry.
+    #[inline]
+    fn check(self, sheet: &[u8]) -> Told {
+        let mut entry = LENT_ENTRY;
+        let number =
+            unsafe { exported::footspandle_sheet_check(sheet.as_ptr(), sheet.len(), &mut entry) };
+        (number, entry)
+    }
+
     #[inline]
     fn run(self, sheet: &[u8], state: &State, out: &mut [u8]) -> Ran {
-        let mut after = [LENT; 5];
-        let told = unsafe {
-            probes::probe_sheet_run(
+        let (mut state, mut entry) = (*state, LENT_ENTRY);
+        let number = unsafe {
+            exported::footspandle_sheet_run(
                 sheet.as_ptr(),
                 sheet.len(),
-                state,
+                &mut state,
                 out.as_mut_ptr(),
                 out.len(),
-                &mut after,
+                &mut entry,
             )
         };
         Ran {
-            number: told % 256,
-            entry: told / 256,
-            state: after,
+            number,
+            entry,
+            state,
         }
     }
 
     #[inline]
-    fn body(self, sheet: &[u8], i: usize) -> Body {
-        let mut out = [0; 20];
-        let length = unsafe { probes::probe_sheet_body(sheet.as_ptr(), sheet.len(), i, &mut out) };
-        (length, out)
+    fn body(self, sheet: &[u8], i: usize) -> Place {
+        let mut at = LENT_PLACE;
+        let length =
+            unsafe { exported::footspandle_sheet_body(sheet.as_ptr(), sheet.len(), i, &mut at) };
+        (at, length)
     }
 
     /// A length past the room gives all of the room, which is the text of no sheet.

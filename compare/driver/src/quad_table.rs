@@ -1,5 +1,5 @@
 //! The quad's functions, a row each. What is compared after a call are the motors that it returns
-//! and what the two readers then give; ours returns the new state, whose motors are both.
+//! and what the two readers then give; ours updates the state, whose motors are both.
 
 use relay_mix_quad::{motors_to_torque_signs, QuadMixer};
 
@@ -50,7 +50,7 @@ pub fn quad_table() -> Vec<Row> {
 
 // ---- one call
 
-/// After a call by value: the motors returned are those of the new state.
+/// After a call that updates the state: the motors answered are those of the new state.
 pub fn returned(state: State) -> After {
     let [a, b, c, d, _] = state;
     ([a, b, c, d], state)

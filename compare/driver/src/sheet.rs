@@ -59,7 +59,7 @@ fn body_len(kind: u8) -> usize {
 // ---- accepted or refused
 
 /// The numbers 1 to 8, or 0: what a sheet gives whatever the output is.
-fn judge_alone(sheet: &[u8]) -> Told {
+pub fn judge_alone(sheet: &[u8]) -> Told {
     if sheet.len() < HEAD {
         return (1, 0);
     }

@@ -1,6 +1,7 @@
 //! The command sheet, a row for each group of sheets: ours against the model. Of each sheet are
-//! compared the number and the entry, every byte of the output and some past it, the state
-//! afterwards, the body of an entry, and of some the text that `mixrun` prints.
+//! compared what it is told alone, number and entry, and what it is told when it is run; every byte of
+//! the output and some past it; the state afterwards; where the body of an entry stands; and of some
+//! the text that `mixrun` prints.
 
 use std::sync::atomic::{AtomicU64, Ordering};
 use std::sync::Arc;
@@ -12,13 +13,14 @@ use crate::inputs::Inputs;
 use crate::sheet::{self, Ran, Told};
 use crate::sheets::{lent_bytes, Case, GROUPS};
 
-/// A body's length, and its bytes at the start of twenty, the rest 0.
-pub type Body = (usize, [u8; 20]);
+/// Where the body of an entry begins, and its length.
+pub type Place = (usize, usize);
 
 /// What runs a sheet.
 pub trait Side: Copy + Sync + 'static {
+    fn check(self, sheet: &[u8]) -> Told;
     fn run(self, sheet: &[u8], state: &State, out: &mut [u8]) -> Ran;
-    fn body(self, sheet: &[u8], i: usize) -> Body;
+    fn body(self, sheet: &[u8], i: usize) -> Place;
     fn text(self, sheet: &[u8]) -> Vec<u8>;
 }
 
@@ -26,25 +28,21 @@ pub trait Side: Copy + Sync + 'static {
 pub struct Model;
 
 impl Side for Model {
+    fn check(self, sheet: &[u8]) -> Told {
+        sheet::judge_alone(sheet)
+    }
+
     fn run(self, sheet: &[u8], state: &State, out: &mut [u8]) -> Ran {
         sheet::run(sheet, state, out)
     }
 
-    fn body(self, sheet: &[u8], i: usize) -> Body {
-        let (from, length) = sheet::body(sheet, i);
-        padded(&sheet[from..from + length])
+    fn body(self, sheet: &[u8], i: usize) -> Place {
+        sheet::body(sheet, i)
     }
 
     fn text(self, sheet: &[u8]) -> Vec<u8> {
         sheet::text(sheet)
     }
-}
-
-/// A part of a sheet as a body.
-pub fn padded(part: &[u8]) -> Body {
-    let mut bytes = [0; 20];
-    bytes[..part.len()].copy_from_slice(part);
-    (part.len(), bytes)
 }
 
 // ---- what is compared
@@ -53,10 +51,11 @@ pub fn padded(part: &[u8]) -> Body {
 const PAST: usize = 24;
 
 pub struct Outcome {
+    checked: Told,
     told: Told,
     state: State,
     out: Vec<u8>,
-    body: Body,
+    body: Place,
     text: Vec<u8>,
 }
 
@@ -66,6 +65,7 @@ pub fn outcome(side: impl Side, case: &Case) -> Outcome {
     let mut out = lent_bytes(case.room + PAST);
     let ran = side.run(&case.sheet, &case.state, &mut out[..case.room]);
     Outcome {
+        checked: side.check(&case.sheet),
         told: (ran.number, ran.entry),
         state: ran.state,
         out,
@@ -85,7 +85,7 @@ fn apart<'a>(a: &'a [u8], b: &'a [u8]) -> (usize, &'a [u8], &'a [u8]) {
 }
 
 impl Hex for Outcome {
-    /// The body and the text left out: what is shown of a difference, `both` says.
+    /// The check, the body and the text left out: what is shown of a difference, `both` says.
     fn hex(&self) -> String {
         let (number, entry) = self.told;
         format!(
@@ -99,7 +99,8 @@ impl Hex for Outcome {
 impl Answer for Outcome {
     #[inline]
     fn same(&self, other: &Outcome) -> bool {
-        self.told == other.told
+        self.checked == other.checked
+            && self.told == other.told
             && self.state.same(&other.state)
             && self.out == other.out
             && self.body == other.body
@@ -109,6 +110,10 @@ impl Answer for Outcome {
     /// The parts that differ, since an output and a text are long.
     fn both(&self, other: &Outcome) -> String {
         let mut said = Vec::new();
+        if self.checked != other.checked {
+            let ((n, i), (m, j)) = (self.checked, other.checked);
+            said.push(format!("check ours {n} at {i}, the model's {m} at {j}"));
+        }
         if self.told != other.told {
             let ((n, i), (m, j)) = (self.told, other.told);
             said.push(format!("ours {n} at {i}, the model's {m} at {j}"));
@@ -123,9 +128,8 @@ impl Answer for Outcome {
             said.push(format!("output from {at} ours {a}, the model's {b}"));
         }
         if self.body != other.body {
-            let ((n, a), (m, b)) = (self.body, other.body);
-            let (a, b) = (a.hex(), b.hex());
-            said.push(format!("body ours {a} of {n}, the model's {b} of {m}"));
+            let ((a, n), (b, m)) = (self.body, other.body);
+            said.push(format!("body ours {n} from {a}, the model's {m} from {b}"));
         }
         if self.text != other.text {
             let (at, a, b) = apart(&self.text, &other.text);

@@ -5,7 +5,7 @@
 use crate::commands::{Call, State, FRESH, MIXES};
 use crate::rust;
 use crate::sheet::{Ran, Told};
-use crate::sheet_table::{padded, Body, Side};
+use crate::sheet_table::{Place, Side};
 use crate::wrong_sheet::Slip;
 
 #[derive(Clone, Copy)]
@@ -210,6 +210,14 @@ impl Slipped {
 }
 
 impl Side for Slipped {
+    fn check(self, sheet: &[u8]) -> Told {
+        let (number, entry) = self.judge(sheet, usize::MAX);
+        match self.0 {
+            Slip::CheckWithoutEntry => (number, 0),
+            _ => (number, entry),
+        }
+    }
+
     fn run(self, sheet: &[u8], start: &State, out: &mut [u8]) -> Ran {
         let (number, entry) = self.judge(sheet, out.len());
         let entries = match (number, self.0) {
@@ -231,7 +239,7 @@ impl Side for Slipped {
         }
     }
 
-    fn body(self, sheet: &[u8], i: usize) -> Body {
+    fn body(self, sheet: &[u8], i: usize) -> Place {
         let k = byte(sheet, 1);
         let i = match self.0 {
             Slip::LastBodyPastCount if 0 < k && k <= i => k - 1,
@@ -239,10 +247,14 @@ impl Side for Slipped {
         };
         let refused = self.judge(sheet, usize::MAX) != (0, 0);
         if k <= i || refused && !self.slips(Slip::BodyOfRefused) {
-            return padded(&[]);
+            return (0, 0);
         }
+        let before = match self.0 {
+            Slip::BodyFromContents => self.due(sheet, 0),
+            _ => 0,
+        };
         let at = two(sheet, 6 + 4 * i);
-        padded(sheet.get(at..at + self.size(kind(sheet, i))).unwrap_or(&[]))
+        (at - before, self.size(kind(sheet, i)))
     }
 
     fn text(self, sheet: &[u8]) -> Vec<u8> {

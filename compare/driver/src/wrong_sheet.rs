@@ -39,14 +39,16 @@ pub enum Slip {
     TorqueFirst,
     RotorModuloFour,
     NanBitsKept,
+    CheckWithoutEntry,
     BodyOfRefused,
     LastBodyPastCount,
+    BodyFromContents,
     TextWithoutZeros,
     TextFromOne,
     TextOfRefusedShort,
 }
 
-const SLIPS: [(Slip, &str); 32] = [
+const SLIPS: [(Slip, &str); 34] = [
     (Slip::RefusesAll, "refuses everything"),
     (Slip::VersionUnread, "version not looked at"),
     (Slip::SixtyFiveEntries, "65 entries accepted"),
@@ -89,8 +91,13 @@ const SLIPS: [(Slip, &str); 32] = [
     (Slip::TorqueFirst, "thrust taken from after the torque"),
     (Slip::RotorModuloFour, "rotor byte taken modulo 4"),
     (Slip::NanBitsKept, "bits of a NaN scale written as lent"),
+    (Slip::CheckWithoutEntry, "check, 0 for every entry number"),
     (Slip::BodyOfRefused, "body of a refused sheet"),
     (Slip::LastBodyPastCount, "body of the last entry past it"),
+    (
+        Slip::BodyFromContents,
+        "body's place counted from the contents' end",
+    ),
     (Slip::TextWithoutZeros, "text, hex without leading zeros"),
     (Slip::TextFromOne, "text, entries from 1"),
     (

@@ -1,4 +1,1 @@
 pub mod Matrix
-pub mod Five
-pub mod Four
-pub mod Sheet

@@ -1,10 +1,6 @@
-// The inner functions, exported for comparison with the Rust alone (compare/). Each passes on what one function of a crate below gives, and its contract says
-// the same. It is no interface for an autopilot.
-mod command_sheet;
-mod mixer_n;
-mod quad_mixer;
-mod wrench;
-
+// Inner functions, exported for comparison alone (compare/). Each passes on what one function of a crate below gives, and its contract says the same. It is no interface
+// for an autopilot: what is one, and is compared too, is in `exported`.
+use lines::TEXT;
 ghost use mathlib.Core.Path.{_≡_};
 ghost use lib.Ieee.{binary32, isNan, ofBits, toBits};
 ghost use lib.Ieee.Scale.{finite};
@@ -12,6 +8,8 @@ ghost use Rattle.number.specs.Treat.{treated, clamped, limited, floorClamp};
 ghost use Rattle.wire.specs.Bytes.{bytesOf, readAt, writeAt};
 ghost use Rattle.fit.specs.Fit.{fitScale};
 ghost use Rattle.solve.specs.Solve.{entry, determinant, solution};
+ghost use Rattle.lines.specs.Lines.{Written};
+ghost use Rattle.report.specs.Report.{printed};
 ghost use Rattle.probes.specs.Matrix.{rows};
 
 #[no_mangle]
@@ -128,4 +126,12 @@ pub extern "C" fn probe_solve3(a: &[f32; 9], rhs: &[f32; 3], x: &mut [f32; 3]) -
     let found = s.x;
     *x = found;
     s.solved
+}
+
+// What `mixrun` prints for a sheet.
+#[no_mangle]
+pub extern "C" fn probe_sheet_text(sheet: &[u8], text: &mut [u8; TEXT]) -> usize
+    ensures { λ r. ⌜ Written (printed (now (sheet .entry))) (now (text .entry)) (now (text .exit)) r ⌝ }
+{
+    report::text_of(sheet, text)
 }
