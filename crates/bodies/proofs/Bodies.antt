@@ -110,7 +110,9 @@ module _ (s : List ℕ) (i : ℕ) where
   -- else the body, where it stands
   pub body-placed : hasBody s i ≡ true → placeOf s i ≡ record { at = offsetOf s i; size = bodySize (kindOf s i) }
   unfolding handedBack handedAt
-  body-placed has = let when = has-when s i has in rw (has, body-length (is-accepted s (when .0)) i (when .1))
+  body-placed has =
+      let when = has-when s i has in
+      rw has (ap (λ (n : ℕ). record { at = offsetOf s i; size = n }) (body-length (is-accepted s (when .0)) i (when .1)))
 
   -- a part that lies within the sheet
   pub place-within : handedAt s i + length (handedBack s i) ≤ length s

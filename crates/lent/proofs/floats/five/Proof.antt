@@ -1,0 +1,11 @@
+-- `lent::floats::five` meets its contract. It is in a file so that a wrong one is refused at its place. Assumes nothing.
+use mathlib.Core.Path.{refl}
+use borrow.Author.Needs.{needs}
+use Rattle.lent.proofs.floats.five.Statement.{statement}
+use Rattle.lent.proofs.floats.five.Tie as tie
+
+returns : tie.Need-returns
+returns c = refl
+
+pub five-spec : {M : Type 1} → statement M
+five-spec = tie.close (tie.spec (λ c. search needs) (λ c. search needs) (λ c. search needs) (λ c. search needs) returns)
