@@ -1,4 +1,5 @@
--- Each public contract determines its answer and the five floats of the state: two results that satisfy it are one, by bits. Assumes nothing.
+-- Each public contract determines its answer and the state, lent as it is or as its five floats: two results that satisfy it are one, by bits. What a run over a
+-- lent state says is what `sheet_run::run` says, word for word, and is determined with that. Assumes nothing.
 use mathlib.Core.Path.{_≡_, sym, ap, _∙_}
 use mathlib.Core.List.{List}
 use Prim.Native.Nat.{ℕ}
@@ -18,7 +19,14 @@ use Rattle.quad.proofs.Determined.{mix-determined, mix-thrust-floor-determined,
 use Rattle.sheet.specs.declared.Verdict.{Verdict}
 use Rattle.sheet_run.specs.Run.{Ran}
 use Rattle.sheet_run.proofs.Determined.{run-determined}
+use Rattle.lent.specs.Lent.{Updated}
 use Rattle.lent.specs.Five.{motorsIn, scaleIn, mixer, five, FloatsOf}
+
+-- where a contract of the mix by value determines the state, so does that of the mix over a lent one, and the motors that are handed back
+pub updated-determined : {Gives : QuadMixer → Type 0} → Determined Gives → (after other : QuadMixer) (motors others : List Float) → Updated Gives after motors → Updated Gives other others → (after ≡ other) × (motors ≡ others)
+updated-determined one after other motors others h k =
+    let same : after ≡ other = one after other (h .given) (k .given) in
+    (same, h .stored ∙ ap (λ (q : QuadMixer). q .«last_motors») same ∙ sym (k .stored))
 
 -- where a contract determines the state, it determines the floats
 pub floats-determined : {P : QuadMixer → Type 0} → Determined P → Determined (FloatsOf P)
