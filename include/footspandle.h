@@ -1,0 +1,322 @@
+/*
+ * footspandle.h: the rotor allocator for C and C++, as the archive libexported.a has it.
+ *
+ * Follows the names and argument orders of relay-mix-quad and relay-mix-multi (Apache-2.0, see
+ * NOTICE); changed: declared for C; a mix changes a lent state; rows and outputs are lent.
+ *
+ * Each function has a contract in the crate `exported`, which is proved, and which the comments here
+ * put into words. It determines the answer, and every byte that is written, for every input: every
+ * bit pattern of every float, every count, and every run of bytes as a sheet. A function reads and
+ * writes nothing but what it is lent, does not fault, and ends. It keeps nothing between calls, so
+ * that threads may call it at any time, each with memory of its own.
+ *
+ * The proof is about the Rattle code; that compiler and processor do what the code says is taken for
+ * granted. The arithmetic is IEEE 754-2019 binary32, each operation rounded once to the nearest, ties
+ * to even, none fused. That the answers are those of the Rust, by bits, is compared by running both
+ * (docs/COMPARISON.md).
+ *
+ * `compare/archive exported` proves the crate, builds the archive and prints its folder. A program
+ * links it as it stands (cc program.c libexported.a). It needs no other library.
+ *
+ *
+ * What the caller owes
+ *
+ * The proof begins where the call does. These it takes for granted, and no function can test them:
+ *
+ * 1. A pointer is not null, is aligned for its type, and points to as many elements as its type or
+ *    the length beside it says. Where the length is 0 nothing is read, but it still is not null.
+ * 2. What a function writes to (a pointer that is not to const) overlaps nothing else that the same
+ *    call is lent. What is only read may overlap.
+ * 3. Nothing else writes to what is lent, nor reads what is written, while the call runs.
+ * 4. All that is lent to be read, and a state, has been written before: footspandle_quad_new makes
+ *    a state. Outputs need no value before the call.
+ * 5. The processor is in the mode that a program starts in: it rounds to nearest, neither flushes
+ *    small results to zero nor takes small numbers for zero, and no floating-point exception traps.
+ *    A program that gcc links with -ffast-math starts in another mode.
+ * 6. There is room on the stack. Nothing is allocated anywhere else.
+ *
+ *
+ * Words
+ *
+ * treated: a NaN or an infinity becomes +0; any other number stays.
+ * limited: treated; then under 0 becomes +0 and over 1 becomes 1. A -0 stays -0.
+ * floor:   the least command of a motor that runs. Every function that takes one limits it first,
+ *          so that a floor which is a NaN or an infinity counts as 0; "the floor" below is that.
+ * thrust:  the collective, meant from 0 to 1. Every number is taken.
+ * torque:  torque_body is roll, pitch and yaw, in that order, meant from -1 to 1. Every number is
+ *          taken.
+ * row:     what thrust, roll, pitch and yaw each count for one rotor, in that order. The quad's are
+ *          M1 1,-1,1,-1; M2 1,-1,-1,1; M3 1,1,-1,-1; M4 1,1,1,1.
+ * delta:   what the torque asks of one motor: its roll, pitch and yaw products, summed, treated.
+ * fits:    the collective plus each delta, taken exactly, lies from the floor to 1.
+ *
+ * The rules themselves, operation by operation, are definitions in crates/rules/specs, and the
+ * promises are in crates/rules/specs/Promises.antt.
+ *
+ * A NaN: the contracts say where an answer is a NaN, and not which one of its many bit patterns it
+ * is. Such answers are named at the functions; there are no others (docs/NAN.md).
+ */
+#ifndef FOOTSPANDLE_H
+#define FOOTSPANDLE_H
+
+#include <stddef.h>
+#include <stdint.h>
+
+#ifdef __cplusplus
+extern "C" {
+#endif
+
+/* ---- sizes ------------------------------------------------------------------------------------ */
+
+#define FOOTSPANDLE_QUAD_MOTORS 4     /* motors of the quad */
+#define FOOTSPANDLE_MAX_ROTORS 8      /* rows of a MixerN, and its motors */
+#define FOOTSPANDLE_MATRIX_FLOATS 32  /* floats of those rows */
+#define FOOTSPANDLE_HEX_ROTORS 6      /* rotors of hex_x; four floats each */
+#define FOOTSPANDLE_OCTO_ROTORS 8     /* rotors of octo_coax; four floats each */
+#define FOOTSPANDLE_MAX_OUTPUTS 64    /* outputs of one footspandle_mixer_mix, at most */
+#define FOOTSPANDLE_MAX_ENTRIES 64    /* entries of a sheet, at most */
+#define FOOTSPANDLE_ANSWER_BYTES 20   /* bytes of an entry's answer in the output of a run */
+#define FOOTSPANDLE_OUTPUT_BYTES 1280 /* room for 64 answers: such an output is never too short */
+
+/* ---- types ------------------------------------------------------------------------------------ */
+
+/*
+ * The quad's state: the motors of the last mix, and the torque scale that the last thrust-floor or
+ * rotor-out recorded. The contracts hold for a state of any bits.
+ */
+typedef struct footspandle_quad {
+    float last_motors[FOOTSPANDLE_QUAD_MOTORS]; /* M1 to M4 */
+    float last_torque_scale;
+} footspandle_quad;
+
+/* What is asked of a frame, or what it gives: a collective thrust, and a torque about each axis. */
+typedef struct footspandle_wrench {
+    float thrust;
+    float roll;
+    float pitch;
+    float yaw;
+} footspandle_wrench;
+
+/* The archive takes a state as five floats that touch, a wrench as four, and a count as 64 bits. */
+typedef char footspandle_quad_is_20_bytes[sizeof(footspandle_quad) == 20 ? 1 : -1];
+typedef char footspandle_wrench_is_16_bytes[sizeof(footspandle_wrench) == 16 ? 1 : -1];
+typedef char footspandle_size_is_8_bytes[sizeof(size_t) == 8 ? 1 : -1];
+
+/* Document 01's numbers. Where more than one applies, the first is given, 5 to 7 entry by entry. */
+enum footspandle_number {
+    FOOTSPANDLE_ACCEPTED = 0,
+    FOOTSPANDLE_TOO_SHORT = 1,    /* the sheet has under 4 bytes */
+    FOOTSPANDLE_BAD_VERSION = 2,  /* its version is not 1 */
+    FOOTSPANDLE_TOO_MANY = 3,     /* it has over 64 entries */
+    FOOTSPANDLE_BAD_LENGTH = 4,   /* its length field is not its length, or the contents do not fit in it */
+    FOOTSPANDLE_BAD_KIND = 5,     /* an entry's kind is over 4 */
+    FOOTSPANDLE_BAD_ROTOR = 6,    /* an entry's rotor byte is not 0, and its kind is not 4 */
+    FOOTSPANDLE_BAD_OFFSET = 7,   /* an entry's body does not begin where the one before it ends */
+    FOOTSPANDLE_BAD_END = 8,      /* the last body does not end where the sheet does */
+    FOOTSPANDLE_SHORT_OUTPUT = 9, /* the output has under 20 bytes for each entry */
+    FOOTSPANDLE_BAD_ROWS = 10     /* over 64 outputs, or rows that are not four floats for each */
+};
+
+/* The kinds of a sheet's entries. */
+enum footspandle_kind {
+    FOOTSPANDLE_PLAIN = 0,
+    FOOTSPANDLE_THRUST_FLOOR = 1,
+    FOOTSPANDLE_PRIORITY = 2,
+    FOOTSPANDLE_AIRMODE = 3,
+    FOOTSPANDLE_ROTOR_OUT = 4
+};
+
+/* ---- the quad --------------------------------------------------------------------------------- */
+
+/* Makes a fresh state: four motors of +0, and the scale 1. What stood there does not matter. */
+void footspandle_quad_new(footspandle_quad *state);
+
+/*
+ * Copies the state's motors, which are those of the last mix; in a fresh state four +0. A motor is a
+ * NaN only where the state was given one: no mix stores a NaN.
+ */
+void footspandle_quad_last_motors(const footspandle_quad *state, float motors[4]);
+
+/*
+ * The state's recorded scale: thrust-floor records the scale that it gave the torque at, rotor-out
+ * records 1, the other mixes leave what is there. It is a NaN only where the state was given one.
+ */
+float footspandle_quad_last_torque_scale(const footspandle_quad *state);
+
+/*
+ * The five mixes. Each takes a state, a command, and writes its answer, four motors, to
+ * state->last_motors; what stood there before does not matter. Every motor lies in 0..1 for every
+ * command, so that none is a NaN. A NaN or an infinity in the torque asks for no torque on that axis,
+ * and as a thrust it asks for no thrust.
+ */
+
+/*
+ * Plain: keeps the torque as far as no motor would go under 0, and gives up thrust. There is no
+ * floor: a motor may stop. Thrust and torque are treated, and each motor's raw sum is its row times
+ * them. If the largest is over 1, what it has over 1 is taken from all; then a motor under 0, or not
+ * finite, is +0, and one over 1 is 1.
+ * Promised: every motor lies in 0..1. A raw sum that overflows to +infinity makes all four +0. Where
+ * the largest raw sum is over 1 and up to 2^24, each motor that has it is exactly 1.
+ * The recorded scale stays.
+ */
+void footspandle_quad_mix(footspandle_quad *state, const float torque_body[3], float thrust);
+
+/*
+ * Thrust-floor: keeps the thrust, and gives up torque by one scale. The collective is the limited
+ * thrust, or the floor where the thrust is under it.
+ * Promised: every motor lies from the floor to 1. A command that fits is not cut: each motor is the
+ * exact sum of collective and delta, rounded once, zero's sign aside, and the scale is 1. A larger
+ * delta never gets a smaller motor.
+ * The scale that the deltas were multiplied by, in 0..1 (it may be -0), is recorded.
+ */
+void footspandle_quad_mix_thrust_floor(footspandle_quad *state, const float torque_body[3], float thrust, float floor);
+
+/*
+ * Priority: keeps the thrust, lifted to the floor as in thrust-floor, and gives up torque in two
+ * groups, yaw, and roll and pitch; a motor's part of a group is the sum of its products, treated. The
+ * yaw's scale is found first, with roll and pitch in full, and then the scale of these, with the yaw
+ * as scaled.
+ * Promised: every motor lies from the floor to 1. A command is not cut if it fits in both orders (the
+ * collective plus one group, rounded, and then plus the other exactly, lies from the floor to 1, for
+ * every motor): each motor then is collective plus roll and pitch plus yaw, rounded at each sum.
+ * The recorded scale stays.
+ */
+void footspandle_quad_mix_priority(footspandle_quad *state, const float torque_body[3], float thrust, float floor);
+
+/*
+ * Airmode: keeps the torque as far as it fits between the idle floor and 1, and moves the thrust up
+ * or down for it. The collective is the limited thrust, even under the idle floor.
+ * Promised: every motor lies from the idle floor to 1. A command that fits is not cut: each motor is
+ * the exact sum of collective and delta, rounded once, zero's sign aside.
+ * The recorded scale stays.
+ */
+void footspandle_quad_mix_airmode(footspandle_quad *state, const float torque_body[3], float thrust, float idle);
+
+/*
+ * Rotor-out: thrust, roll and pitch on the three rotors that are left where `failed` is 0 to 3 (M1 to
+ * M4). A number of 4 or more means that none is lost: nothing is scaled then, and each motor is cut
+ * alone. Yaw is dropped. Roll and pitch count as limited to -8..8.
+ * Promised: a lost rotor is +0, and every other motor lies from the floor to 1. Of the torque nothing
+ * is promised: a floor over 0 lifts the rotor opposite to the lost one, which tilts the aircraft, and
+ * can turn the roll or pitch that was asked for round (docs/DIFFERENCES.md, F17 and F18).
+ * The recorded scale becomes 1, whatever was given.
+ */
+void footspandle_quad_mix_rotor_out(footspandle_quad *state, size_t failed, const float torque_body[3], float thrust, float floor);
+
+/*
+ * The roll, pitch and yaw that four motors give by the quad's rows: sums from +0 on, M1 first, and
+ * not signs. Motors are taken as they are, so that a sum is a NaN where a motor is one or infinities
+ * cancel, and infinite where it overflows. Motors in 0..1 lead to neither.
+ */
+void footspandle_motors_to_torque_signs(const float motors[4], float sums[3]);
+
+/* ---- MixerN: a frame of up to eight rotors ---------------------------------------------------- */
+
+/*
+ * A MixerN is its matrix, eight rows of four floats, and a count, which the caller keeps. Nothing but
+ * the caller reads the count: all eight rows are used, whatever it is, so that a row of a rotor that
+ * is not there should be four zeros.
+ */
+
+/* Copies the rows as they are, NaNs among them, and answers the count n, a count over 8 as 8. */
+size_t footspandle_mixer_n_new(const float rows[32], size_t n, float mix[32]);
+
+/* Writes the quad's four rows and four rows of +0, and answers the count 4. */
+size_t footspandle_mixer_n_quad_x(float mix[32]);
+
+/*
+ * Torque and thrust to eight motors. Thrust and torque are treated; each row's sum is treated; if the
+ * largest is over 1, what it has over 1 is taken from all; then each is limited. There is no floor.
+ * Promised: every motor lies in 0..1, for every matrix. With the rows of quad_x the first four are
+ * those of footspandle_quad_mix, by bits, unless a raw sum of that one is +infinity.
+ * All eight motors are written, also those past the count.
+ */
+void footspandle_mixer_n_mix(const float mix[32], size_t n, const float torque_body[3], float thrust, float motors[8]);
+
+/*
+ * The thrust, roll, pitch and yaw that eight motors give by the matrix: sums from +0 on. Motors are
+ * treated and the matrix is not, so that a sum is a NaN where its operations lead to one: a NaN in the
+ * matrix, an infinity in it times zero, or infinities that cancel, those of an overflow among them.
+ */
+void footspandle_mixer_n_achieved_wrench(const float mix[32], size_t n, const float motors[8], footspandle_wrench *wrench);
+
+/* ---- any frame, by lent rows ------------------------------------------------------------------ */
+
+/* x held to 0..1: a NaN gives +0, +infinity 1, -infinity +0; a -0 stays. The answer is never a NaN. */
+float footspandle_clamp01(float x);
+
+/*
+ * A wrench to the commands of the rotors, by their rows: one run of floats, four (thrust, roll,
+ * pitch, yaw) for each output. Both lengths count floats. Each output is its row's sum of four
+ * products, held to 0..1 by itself as clamp01 does. Nothing is treated: a sum that is a NaN gives +0,
+ * and one of +infinity gives 1. There is no floor.
+ * Answers 0, and then every output lies in 0..1, for every row and wrench. Over 64 outputs, or
+ * rows_length other than 4 * out_length, is refused with 10, and the outputs stay as they were. No
+ * outputs with no rows are accepted, and nothing is written.
+ */
+uint32_t footspandle_mixer_mix(const float *rows, size_t rows_length, const footspandle_wrench *w, float *out, size_t out_length);
+
+/*
+ * Writes the six rows of hex_x, as footspandle_mixer_mix takes them, each number as the nearest float:
+ * thrust 1, and roll, pitch, yaw -1,0,1; 1,0,-1; 0.5,-0.866,1; -0.5,0.866,-1; -0.5,-0.866,-1;
+ * 0.5,0.866,1.
+ */
+void footspandle_hex_x(float rows[24]);
+
+/*
+ * The same of octo_coax, eight rows: thrust 1, and roll, pitch, yaw -0.707,0.707,1; -0.707,0.707,-1;
+ * 0.707,-0.707,1; 0.707,-0.707,-1; 0.707,0.707,-1; 0.707,0.707,1; -0.707,-0.707,-1; -0.707,-0.707,1.
+ */
+void footspandle_octo_coax(float rows[32]);
+
+/* footspandle_mixer_mix by the rows of hex_x, which cannot be refused: every output lies in 0..1. */
+void footspandle_mix_hex_x(const footspandle_wrench *w, float out[6]);
+
+/* The same by the rows of octo_coax. */
+void footspandle_mix_octo_coax(const footspandle_wrench *w, float out[8]);
+
+/* ---- the command sheet ------------------------------------------------------------------------ */
+
+/*
+ * A sheet is bytes, of which nothing is trusted. Numbers are little-endian.
+ *
+ *   1 byte    version, 1
+ *   1 byte    k, how many entries, 0 to 64
+ *   2 bytes   the length of the whole sheet
+ *   4 bytes for each entry: kind; rotor byte (kind 4: 0 to 3 is the lost rotor M1 to M4, 4 to 255
+ *             none is lost; any other kind: 0); two bytes, where its body begins in the sheet
+ *   16 or 20 bytes for each entry, its body: floats thrust, roll, pitch, yaw and, except for plain,
+ *             floor. Bodies stand in the order of the entries and touch
+ *
+ * The functions that judge a sheet answer 0 where it is accepted, and else the number of the first
+ * refusal that applies. They store the number of the entry that it is about, counted from 0: 5, 6 and
+ * 7 are about an entry; with 0 and every other number 0 is stored.
+ */
+
+/* Whether a sheet is accepted: answers 0 or one of 1 to 8, and stores the entry. */
+uint32_t footspandle_sheet_check(const uint8_t *sheet, size_t sheet_length, uint32_t *entry);
+
+/*
+ * The body of entry i as a part of the sheet: answers its length, 16 or 20, and stores where it
+ * begins in the sheet; it ends within the sheet. For a sheet that 1 to 8 refuse, and for an i that is
+ * not under the count of entries, the part is empty: 0 is answered, and 0 is stored.
+ */
+size_t footspandle_sheet_body(const uint8_t *sheet, size_t sheet_length, size_t i, size_t *at);
+
+/*
+ * Runs a sheet from a state: its commands as calls of the mixes above, one after another. Answers 0
+ * or one of 1 to 9, and stores the entry.
+ * On 0 the state is that after the last call, and the answer of entry i stands in the bytes 20i to
+ * 20i + 19 of the output: four motors and then the recorded scale after that call, each as the bits
+ * of its float, little-endian (a NaN, which only the scale of the lent state can be, as 7fc00000).
+ * The bytes past the last answer stay as they were. Each answer keeps what its mix promises.
+ * On any other number the output is as it was, byte by byte, and so is the state, but that a NaN in
+ * it may be another NaN.
+ */
+uint32_t footspandle_sheet_run(const uint8_t *sheet, size_t sheet_length, footspandle_quad *state, uint8_t *out, size_t out_length, uint32_t *entry);
+
+#ifdef __cplusplus
+}
+#endif
+
+#endif
