@@ -23,6 +23,7 @@ mod lent;
 mod ours;
 mod ours_sheet;
 mod quad_table;
+mod rows;
 mod rust;
 mod sheet;
 mod sheet_table;
@@ -37,7 +38,8 @@ mod wrong_sheet;
 
 use std::process::ExitCode;
 
-use compare::{Row, Tally};
+use compare::Row;
+use rows::{compare_all, notice_all};
 
 fn main() -> ExitCode {
     let (mut quick, mut sheets, mut wrong, mut findings) = (false, false, false, false);
@@ -95,18 +97,6 @@ fn compare_both(only_sheets: bool, quick: bool) -> bool {
     differ == 0
 }
 
-/// Compares every row: how many were compared, and how many differ.
-fn compare_all(rows: &[Row], quick: bool) -> (u64, u64) {
-    let (mut compared, mut differ) = (0, 0);
-    for row in rows {
-        let tally = row.run(cases(row, quick), false);
-        show(row, &tally);
-        compared += tally.compared;
-        differ += tally.differ;
-    }
-    (compared, differ)
-}
-
 // ---- wrong on purpose
 
 /// Compares the wrong functions, unless only sheets are asked for, and then the wrong sheet runners.
@@ -129,17 +119,6 @@ fn notice_both(only_sheets: bool, quick: bool) -> bool {
     good
 }
 
-/// Compares every row of wrong functions till it differs: how many there are, and how many do.
-fn notice_all(rows: &[Row], quick: bool) -> (usize, usize) {
-    let mut noticed = 0;
-    for row in rows {
-        let tally = row.run(cases(row, quick), true);
-        show(row, &tally);
-        noticed += usize::from(0 < tally.differ);
-    }
-    (rows.len(), noticed)
-}
-
 // ---- findings
 
 /// Runs every finding, and says whether each answer is the stated one.
@@ -155,30 +134,4 @@ fn run_findings() -> bool {
     }
     println!("{} findings run, {differ} differ", all.len());
     differ == 0
-}
-
-// ---- a row
-
-/// How many cases of a row are run.
-fn cases(row: &Row, quick: bool) -> u64 {
-    if quick {
-        row.cases.min(1024).max(row.cases / 1024)
-    } else {
-        row.cases
-    }
-}
-
-fn show(row: &Row, tally: &Tally) {
-    let count = if tally.compared == row.cases {
-        format!("{}", row.cases)
-    } else {
-        format!("the first {} of {}", tally.compared, row.cases)
-    };
-    println!(
-        "{}: {count}, {}: {} differ",
-        row.name, row.kinds, tally.differ
-    );
-    for (_, text) in &tally.first {
-        println!("    {text}");
-    }
 }
