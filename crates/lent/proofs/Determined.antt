@@ -4,17 +4,10 @@ use mathlib.Core.Path.{_≡_, sym, ap, _∙_}
 use mathlib.Core.List.{List}
 use Prim.Native.Nat.{ℕ}
 use lib.Ieee.{Float}
-use Rattle.binary32.specs.Arithmetic.{1f}
-use Rattle.rules.specs.Rows.{quadRows}
-use Rattle.rules.specs.Plain.{plainMotors}
-use Rattle.rules.specs.ThrustFloor.{thrustFloorScale, thrustFloorMotors}
-use Rattle.rules.specs.Priority.{priorityMotors}
-use Rattle.rules.specs.Airmode.{airmodeMotors}
-use Rattle.rules.specs.RotorOut.{rotorOutMotors}
-use Rattle.rules.specs.Promises.{PlainKeeps, ThrustFloorKeeps, PriorityKeeps, AirmodeKeeps, RotorOutKeeps}
 use Rattle.rules.proofs.Determined.{Determined, equal-determined}
 use Rattle.quad.specs.declared.QuadMixer.{QuadMixer}
-use Rattle.quad.specs.State.{fresh, Mixed}
+use Rattle.quad.specs.Mixes.{PlainGives, ThrustFloorGives, PriorityGives, AirmodeGives, RotorOutGives}
+use Rattle.quad.specs.State.{fresh}
 use Rattle.quad.proofs.Determined.{mix-determined, mix-thrust-floor-determined, mix-priority-determined, mix-airmode-determined, mix-rotor-out-determined}
 use Rattle.sheet.specs.declared.Verdict.{Verdict}
 use Rattle.sheet_run.specs.Run.{Ran}
@@ -44,19 +37,19 @@ module _ (torque before : List Float) (thrust floor : Float) (failed : ℕ) wher
   pub last-torque-scale-determined : Determined (λ r. r ≡ scaleIn before)
   last-torque-scale-determined = equal-determined
 
-  pub mix-floats-determined : Determined (FloatsOf (Mixed (plainMotors quadRows torque thrust) (scaleIn before) (λ motors scale. PlainKeeps torque thrust motors)))
+  pub mix-floats-determined : Determined (FloatsOf (PlainGives (mixer before) torque thrust))
   mix-floats-determined = floats-determined (mix-determined torque before thrust floor failed (mixer before))
 
-  pub mix-thrust-floor-floats-determined : Determined (FloatsOf (Mixed (thrustFloorMotors quadRows torque thrust floor) (thrustFloorScale quadRows torque thrust floor) (ThrustFloorKeeps quadRows torque thrust floor)))
+  pub mix-thrust-floor-floats-determined : Determined (FloatsOf (ThrustFloorGives (mixer before) torque thrust floor))
   mix-thrust-floor-floats-determined = floats-determined (mix-thrust-floor-determined torque before thrust floor failed (mixer before))
 
-  pub mix-priority-floats-determined : Determined (FloatsOf (Mixed (priorityMotors quadRows torque thrust floor) (scaleIn before) (λ motors scale. PriorityKeeps quadRows torque thrust floor motors)))
+  pub mix-priority-floats-determined : Determined (FloatsOf (PriorityGives (mixer before) torque thrust floor))
   mix-priority-floats-determined = floats-determined (mix-priority-determined torque before thrust floor failed (mixer before))
 
-  pub mix-airmode-floats-determined : Determined (FloatsOf (Mixed (airmodeMotors quadRows torque thrust floor) (scaleIn before) (λ motors scale. AirmodeKeeps quadRows torque thrust floor motors)))
+  pub mix-airmode-floats-determined : Determined (FloatsOf (AirmodeGives (mixer before) torque thrust floor))
   mix-airmode-floats-determined = floats-determined (mix-airmode-determined torque before thrust floor failed (mixer before))
 
-  pub mix-rotor-out-floats-determined : Determined (FloatsOf (Mixed (rotorOutMotors failed torque thrust floor) 1f (λ motors scale. RotorOutKeeps failed floor motors)))
+  pub mix-rotor-out-floats-determined : Determined (FloatsOf (RotorOutGives (mixer before) failed torque thrust floor))
   mix-rotor-out-floats-determined = floats-determined (mix-rotor-out-determined torque before thrust floor failed (mixer before))
 
 -- the verdict, the floats and the output

@@ -9,15 +9,8 @@
 use quad::QuadMixer;
 use sheet::Verdict;
 ghost use mathlib.Core.Path.{_≡_};
-ghost use Rattle.binary32.specs.Arithmetic.{1f};
-ghost use Rattle.rules.specs.Rows.{quadRows};
-ghost use Rattle.rules.specs.Plain.{plainMotors};
-ghost use Rattle.rules.specs.ThrustFloor.{thrustFloorMotors, thrustFloorScale};
-ghost use Rattle.rules.specs.Priority.{priorityMotors};
-ghost use Rattle.rules.specs.Airmode.{airmodeMotors};
-ghost use Rattle.rules.specs.RotorOut.{rotorOutMotors};
-ghost use Rattle.rules.specs.Promises.{PlainKeeps, ThrustFloorKeeps, PriorityKeeps, AirmodeKeeps, RotorOutKeeps};
-ghost use Rattle.quad.specs.State.{fresh, Mixed};
+ghost use Rattle.quad.specs.Mixes.{PlainGives, ThrustFloorGives, PriorityGives, AirmodeGives, RotorOutGives};
+ghost use Rattle.quad.specs.State.{fresh};
 ghost use Rattle.sheet_run.specs.Run.{Ran};
 ghost use Rattle.lent.specs.Five.{motorsIn, scaleIn, mixer, five, FloatsOf};
 
@@ -60,28 +53,28 @@ pub fn last_torque_scale(state: &[f32; 5]) -> f32
 
 // Plain: see `QuadMixer::mix`.
 pub fn mix(state: &mut [f32; 5], torque_body: [f32; 3], thrust: f32)
-    ensures { λ _. ⌜ FloatsOf (Mixed (plainMotors quadRows «torque_body» thrust) (scaleIn (now (state .entry))) (λ motors scale. PlainKeeps «torque_body» thrust motors)) (now (state .exit)) ⌝ }
+    ensures { λ _. ⌜ FloatsOf (PlainGives (mixer (now (state .entry))) «torque_body» thrust) (now (state .exit)) ⌝ }
 {
     *state = five(mixer(state).mix(torque_body, thrust));
 }
 
 // Thrust-floor: see `QuadMixer::mix_thrust_floor`.
 pub fn mix_thrust_floor(state: &mut [f32; 5], torque_body: [f32; 3], thrust: f32, floor: f32)
-    ensures { λ _. ⌜ FloatsOf (Mixed (thrustFloorMotors quadRows «torque_body» thrust floor) (thrustFloorScale quadRows «torque_body» thrust floor) (ThrustFloorKeeps quadRows «torque_body» thrust floor)) (now (state .exit)) ⌝ }
+    ensures { λ _. ⌜ FloatsOf (ThrustFloorGives (mixer (now (state .entry))) «torque_body» thrust floor) (now (state .exit)) ⌝ }
 {
     *state = five(mixer(state).mix_thrust_floor(torque_body, thrust, floor));
 }
 
 // Priority: see `QuadMixer::mix_priority`.
 pub fn mix_priority(state: &mut [f32; 5], torque_body: [f32; 3], thrust: f32, floor: f32)
-    ensures { λ _. ⌜ FloatsOf (Mixed (priorityMotors quadRows «torque_body» thrust floor) (scaleIn (now (state .entry))) (λ motors scale. PriorityKeeps quadRows «torque_body» thrust floor motors)) (now (state .exit)) ⌝ }
+    ensures { λ _. ⌜ FloatsOf (PriorityGives (mixer (now (state .entry))) «torque_body» thrust floor) (now (state .exit)) ⌝ }
 {
     *state = five(mixer(state).mix_priority(torque_body, thrust, floor));
 }
 
 // Airmode: see `QuadMixer::mix_airmode`.
 pub fn mix_airmode(state: &mut [f32; 5], torque_body: [f32; 3], thrust: f32, idle: f32)
-    ensures { λ _. ⌜ FloatsOf (Mixed (airmodeMotors quadRows «torque_body» thrust idle) (scaleIn (now (state .entry))) (λ motors scale. AirmodeKeeps quadRows «torque_body» thrust idle motors)) (now (state .exit)) ⌝ }
+    ensures { λ _. ⌜ FloatsOf (AirmodeGives (mixer (now (state .entry))) «torque_body» thrust idle) (now (state .exit)) ⌝ }
 {
     *state = five(mixer(state).mix_airmode(torque_body, thrust, idle));
 }
@@ -94,7 +87,7 @@ pub fn mix_rotor_out(
     thrust: f32,
     floor: f32,
 )
-    ensures { λ _. ⌜ FloatsOf (Mixed (rotorOutMotors failed «torque_body» thrust floor) 1f (λ motors scale. RotorOutKeeps failed floor motors)) (now (state .exit)) ⌝ }
+    ensures { λ _. ⌜ FloatsOf (RotorOutGives (mixer (now (state .entry))) failed «torque_body» thrust floor) (now (state .exit)) ⌝ }
 {
     *state = five(mixer(state).mix_rotor_out(failed, torque_body, thrust, floor));
 }

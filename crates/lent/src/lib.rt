@@ -6,22 +6,14 @@
 // Each contract is that of the mix by value, promises and all, said of the state that stands there afterwards.
 pub mod floats;
 
-ghost use Rattle.binary32.specs.Arithmetic.{1f};
-ghost use Rattle.rules.specs.Rows.{quadRows};
-ghost use Rattle.rules.specs.Plain.{plainMotors};
-ghost use Rattle.rules.specs.ThrustFloor.{thrustFloorMotors, thrustFloorScale};
-ghost use Rattle.rules.specs.Priority.{priorityMotors};
-ghost use Rattle.rules.specs.Airmode.{airmodeMotors};
-ghost use Rattle.rules.specs.RotorOut.{rotorOutMotors};
-ghost use Rattle.rules.specs.Promises.{PlainKeeps, ThrustFloorKeeps, PriorityKeeps, AirmodeKeeps, RotorOutKeeps};
-ghost use Rattle.quad.specs.State.{Mixed};
+ghost use Rattle.quad.specs.Mixes.{PlainGives, ThrustFloorGives, PriorityGives, AirmodeGives, RotorOutGives};
 ghost use Rattle.lent.specs.Lent.{Updated};
 ghost use Rattle.sheet_run.specs.Run.{Ran};
 use quad::QuadMixer;
 use sheet::Verdict;
 
 pub fn mix(q: &mut QuadMixer, torque_body: [f32; 3], thrust: f32) -> [f32; 4]
-    ensures { λ r. ⌜ Updated (Mixed (plainMotors quadRows «torque_body» thrust) (now (q .entry) .«last_torque_scale») (λ motors scale. PlainKeeps «torque_body» thrust motors)) (now (q .exit)) r ⌝ }
+    ensures { λ r. ⌜ Updated (PlainGives (now (q .entry)) «torque_body» thrust) (now (q .exit)) r ⌝ }
 {
     let before = *q;
     let after = before.mix(torque_body, thrust);
@@ -35,7 +27,7 @@ pub fn mix_thrust_floor(
     thrust: f32,
     floor: f32,
 ) -> [f32; 4]
-    ensures { λ r. ⌜ Updated (Mixed (thrustFloorMotors quadRows «torque_body» thrust floor) (thrustFloorScale quadRows «torque_body» thrust floor) (ThrustFloorKeeps quadRows «torque_body» thrust floor)) (now (q .exit)) r ⌝ }
+    ensures { λ r. ⌜ Updated (ThrustFloorGives (now (q .entry)) «torque_body» thrust floor) (now (q .exit)) r ⌝ }
 {
     let before = *q;
     let after = before.mix_thrust_floor(torque_body, thrust, floor);
@@ -44,7 +36,7 @@ pub fn mix_thrust_floor(
 }
 
 pub fn mix_priority(q: &mut QuadMixer, torque_body: [f32; 3], thrust: f32, floor: f32) -> [f32; 4]
-    ensures { λ r. ⌜ Updated (Mixed (priorityMotors quadRows «torque_body» thrust floor) (now (q .entry) .«last_torque_scale») (λ motors scale. PriorityKeeps quadRows «torque_body» thrust floor motors)) (now (q .exit)) r ⌝ }
+    ensures { λ r. ⌜ Updated (PriorityGives (now (q .entry)) «torque_body» thrust floor) (now (q .exit)) r ⌝ }
 {
     let before = *q;
     let after = before.mix_priority(torque_body, thrust, floor);
@@ -53,7 +45,7 @@ pub fn mix_priority(q: &mut QuadMixer, torque_body: [f32; 3], thrust: f32, floor
 }
 
 pub fn mix_airmode(q: &mut QuadMixer, torque_body: [f32; 3], thrust: f32, idle: f32) -> [f32; 4]
-    ensures { λ r. ⌜ Updated (Mixed (airmodeMotors quadRows «torque_body» thrust idle) (now (q .entry) .«last_torque_scale») (λ motors scale. AirmodeKeeps quadRows «torque_body» thrust idle motors)) (now (q .exit)) r ⌝ }
+    ensures { λ r. ⌜ Updated (AirmodeGives (now (q .entry)) «torque_body» thrust idle) (now (q .exit)) r ⌝ }
 {
     let before = *q;
     let after = before.mix_airmode(torque_body, thrust, idle);
@@ -68,7 +60,7 @@ pub fn mix_rotor_out(
     thrust: f32,
     floor: f32,
 ) -> [f32; 4]
-    ensures { λ r. ⌜ Updated (Mixed (rotorOutMotors failed «torque_body» thrust floor) 1f (λ motors scale. RotorOutKeeps failed floor motors)) (now (q .exit)) r ⌝ }
+    ensures { λ r. ⌜ Updated (RotorOutGives (now (q .entry)) failed «torque_body» thrust floor) (now (q .exit)) r ⌝ }
 {
     let before = *q;
     let after = before.mix_rotor_out(failed, torque_body, thrust, floor);

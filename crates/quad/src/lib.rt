@@ -3,18 +3,12 @@
 // Follows relay-mix-quad's QuadMixer (Apache-2.0, see NOTICE); changed: written in Rattle with contracts; a method takes the state and gives the new one in the
 // place of changing it where it stands; how each mix comes to its motors stands in a crate of its own.
 //
-// What a mix answers is defined in the crate `rules`, and so are the promises that each contract ends with.
+// What each mix gives is said in specs/Mixes: the motors and the promises by the crate `rules`, and the recorded scale.
 ghost use mathlib.Core.Path.{_≡_};
-ghost use Rattle.binary32.specs.Arithmetic.{1f};
 ghost use Rattle.rules.specs.Rows.{quadRows};
-ghost use Rattle.rules.specs.Plain.{plainMotors};
-ghost use Rattle.rules.specs.ThrustFloor.{thrustFloorMotors, thrustFloorScale};
-ghost use Rattle.rules.specs.Priority.{priorityMotors};
-ghost use Rattle.rules.specs.Airmode.{airmodeMotors};
-ghost use Rattle.rules.specs.RotorOut.{rotorOutMotors};
 ghost use Rattle.rules.specs.Torque.{torqueOf};
-ghost use Rattle.rules.specs.Promises.{PlainKeeps, ThrustFloorKeeps, PriorityKeeps, AirmodeKeeps, RotorOutKeeps};
-ghost use Rattle.quad.specs.State.{state, fresh, Mixed};
+ghost use Rattle.quad.specs.Mixes.{PlainGives, ThrustFloorGives, PriorityGives, AirmodeGives, RotorOutGives};
+ghost use Rattle.quad.specs.State.{state, fresh};
 
 // The last motors, and the torque scale that the last thrust-floor or rotor-out recorded. The other mixes leave the scale as it is.
 #[repr(C)]
@@ -48,7 +42,7 @@ impl QuadMixer {
 
     // Plain: torque before thrust, and no idle floor, so that a motor may stop.
     pub fn mix(self, torque_body: [f32; 3], thrust: f32) -> QuadMixer
-        ensures { λ r. ⌜ Mixed (plainMotors quadRows «torque_body» thrust) (self .«last_torque_scale») (λ motors scale. PlainKeeps «torque_body» thrust motors) r ⌝ }
+        ensures { λ r. ⌜ PlainGives self «torque_body» thrust r ⌝ }
     {
         let m = plain::motors(torque_body, thrust);
         state(m, self.last_torque_scale)
@@ -56,7 +50,7 @@ impl QuadMixer {
 
     // Thrust-floor: thrust before torque, each motor in floor..1. The scale that the torque was given at is recorded.
     pub fn mix_thrust_floor(self, torque_body: [f32; 3], thrust: f32, floor: f32) -> QuadMixer
-        ensures { λ r. ⌜ Mixed (thrustFloorMotors quadRows «torque_body» thrust floor) (thrustFloorScale quadRows «torque_body» thrust floor) (ThrustFloorKeeps quadRows «torque_body» thrust floor) r ⌝ }
+        ensures { λ r. ⌜ ThrustFloorGives self «torque_body» thrust floor r ⌝ }
     {
         let m = thrust_floor::motors(torque_body, thrust, floor);
         let motors = m.motors;
@@ -71,7 +65,7 @@ impl QuadMixer {
 
     // Priority: thrust before roll and pitch, these before yaw, each motor in floor..1. No one number says what was given, so the recorded scale stays.
     pub fn mix_priority(self, torque_body: [f32; 3], thrust: f32, floor: f32) -> QuadMixer
-        ensures { λ r. ⌜ Mixed (priorityMotors quadRows «torque_body» thrust floor) (self .«last_torque_scale») (λ motors scale. PriorityKeeps quadRows «torque_body» thrust floor motors) r ⌝ }
+        ensures { λ r. ⌜ PriorityGives self «torque_body» thrust floor r ⌝ }
     {
         let motors = priority::motors(torque_body, thrust, floor);
         state(motors, self.last_torque_scale)
@@ -79,7 +73,7 @@ impl QuadMixer {
 
     // Airmode: torque before thrust, each motor in idle..1.
     pub fn mix_airmode(self, torque_body: [f32; 3], thrust: f32, idle: f32) -> QuadMixer
-        ensures { λ r. ⌜ Mixed (airmodeMotors quadRows «torque_body» thrust idle) (self .«last_torque_scale») (λ motors scale. AirmodeKeeps quadRows «torque_body» thrust idle motors) r ⌝ }
+        ensures { λ r. ⌜ AirmodeGives self «torque_body» thrust idle r ⌝ }
     {
         let motors = airmode::motors(torque_body, thrust, idle);
         state(motors, self.last_torque_scale)
@@ -93,7 +87,7 @@ impl QuadMixer {
         thrust: f32,
         floor: f32,
     ) -> QuadMixer
-        ensures { λ r. ⌜ Mixed (rotorOutMotors failed «torque_body» thrust floor) 1f (λ motors scale. RotorOutKeeps failed floor motors) r ⌝ }
+        ensures { λ r. ⌜ RotorOutGives self failed «torque_body» thrust floor r ⌝ }
     {
         let motors = rotor_out::motors(failed, torque_body, thrust, floor);
         state(motors, 1.0)

@@ -3,30 +3,19 @@
 use mathlib.Core.Path.{_≡_, refl, ap}
 use mathlib.Core.List.{List, [], _∷_, _++_}
 use Prim.Native.Nat.{ℕ}
-use Rattle.binary32.specs.Arithmetic.{1f}
-use Rattle.rules.specs.Rows.{quadRows}
-use Rattle.rules.specs.Plain.{plainMotors}
-use Rattle.rules.specs.ThrustFloor.{thrustFloorMotors, thrustFloorScale}
-use Rattle.rules.specs.Priority.{priorityMotors}
-use Rattle.rules.specs.Airmode.{airmodeMotors}
-use Rattle.rules.specs.RotorOut.{rotorOutMotors}
-use Rattle.rules.specs.Promises.{PlainKeeps, ThrustFloorKeeps, PriorityKeeps, AirmodeKeeps, RotorOutKeeps}
 use Rattle.quad.specs.declared.QuadMixer.{QuadMixer}
-use Rattle.quad.specs.State.{Mixed}
+use Rattle.quad.specs.Mixes.{PlainGives, ThrustFloorGives, PriorityGives, AirmodeGives, RotorOutGives}
 use Rattle.entries.specs.declared.command.Command.{Command}
 use Rattle.entries.specs.declared.command.Command.the-variants.{Plain, ThrustFloor, Priority, Airmode, RotorOut}
 use Rattle.sheet_run.specs.Run.{called, ran, answerOf, answersOf}
 
 -- the contract of the method of a command, as `quad/src/lib.rt` has it: r is what it gives
 pub Method : QuadMixer → Command → QuadMixer → Type 0
-Method q (Plain t r p y) = Mixed (plainMotors quadRows (r ∷ p ∷ y ∷ []) t) (q .«last_torque_scale») (λ motors scale. PlainKeeps (r ∷ p ∷ y ∷ []) t motors)
-Method q (ThrustFloor t r p y floor) =
-    Mixed (thrustFloorMotors quadRows (r ∷ p ∷ y ∷ []) t floor) (thrustFloorScale quadRows (r ∷ p ∷ y ∷ []) t floor) (ThrustFloorKeeps quadRows (r ∷ p ∷ y ∷ []) t floor)
-Method q (Priority t r p y floor) =
-    Mixed (priorityMotors quadRows (r ∷ p ∷ y ∷ []) t floor) (q .«last_torque_scale») (λ motors scale. PriorityKeeps quadRows (r ∷ p ∷ y ∷ []) t floor motors)
-Method q (Airmode t r p y floor) =
-    Mixed (airmodeMotors quadRows (r ∷ p ∷ y ∷ []) t floor) (q .«last_torque_scale») (λ motors scale. AirmodeKeeps quadRows (r ∷ p ∷ y ∷ []) t floor motors)
-Method q (RotorOut failed t r p y floor) = Mixed (rotorOutMotors failed (r ∷ p ∷ y ∷ []) t floor) 1f (λ motors scale. RotorOutKeeps failed floor motors)
+Method q (Plain t r p y) = PlainGives q (r ∷ p ∷ y ∷ []) t
+Method q (ThrustFloor t r p y floor) = ThrustFloorGives q (r ∷ p ∷ y ∷ []) t floor
+Method q (Priority t r p y floor) = PriorityGives q (r ∷ p ∷ y ∷ []) t floor
+Method q (Airmode t r p y floor) = AirmodeGives q (r ∷ p ∷ y ∷ []) t floor
+Method q (RotorOut failed t r p y floor) = RotorOutGives q failed (r ∷ p ∷ y ∷ []) t floor
 
 -- a state is reached by calling the methods of commands in their order, and these are the bytes of the states on the way
 pub data Reached : QuadMixer → List Command → QuadMixer → List ℕ → Type 0 where
