@@ -1,16 +1,16 @@
 -- The fit scale lies in 0..1, whatever the bases, the deltas and the floor are: the walk starts at 1 and only ever takes something smaller, which is no
 -- NaN since it was found smaller, and its end turns what is under 0 or not finite into +0. Assumes nothing.
-use mathlib.Core.Path.{_≡_, refl}
-use mathlib.Core.Bool.{Bool, true, false, not, _&&_, _||_, cond}
+use mathlib.Core.Path.{_≡_, refl, sym}
+use mathlib.Core.Bool.{Bool, true, false, true≢false, not, _&&_, _||_, cond}
 use mathlib.Core.List.{List, [], _∷_}
 use lib.Dec.{T}
-use lib.Ieee.{Float, binary32, fits, lt, le, eq, neg, ofBits}
+use lib.Ieee.{Float, nan, inf, fin, binary32, fits, isNan, lt, le, eq, neg, ofBits}
 use lib.Ieee.Fits.{div-fits, cond-fits}
 use lib.Ieee.Scale.{finite}
 use Rattle.binary32.specs.Arithmetic.{_-f_, _/f_, 0f, 1f, small}
 use Rattle.binary32.specs.Range.{Between}
 use Rattle.binary32.proofs.Magnitude.{Number}
-use Rattle.binary32.proofs.Comparison.{less-le, le-number, le-refl, le-trans, not-under}
+use Rattle.binary32.proofs.Comparison.{less-le, le-number, le-refl, le-trans, not-under, not-over}
 use Rattle.binary32.proofs.Range.{zero-finite, zero-number, one-number}
 use Rattle.fit.specs.Fit.{limits, motorLimit, tightened, walk, settled, fitScale}
 
@@ -20,7 +20,7 @@ pub record Held (s : Float) : Type 0 where
   pub number : Number binary32 s
   pub most : le s 1f ≡ true
 
-one-held : Held 1f
+pub one-held : Held 1f
 one-held = record { number = one-number; most = le-refl one-number }
 
 limit-fits : (floor b d : Float) → T (fits binary32 (motorLimit floor b d))
@@ -29,7 +29,10 @@ limit-fits floor b d = cond-fits binary32 (lt small d) ((1f -f b) /f d) ((b -f f
 
 -- ---- the walk keeps it
 
-step-held : (floor s b d : Float) → Held s → Held (tightened floor s b d)
+pub not-above : {s : Float} → Held s → lt 1f s ≡ false
+not-above h = not-over (h .number) one-number (h .most)
+
+pub step-held : (floor s b d : Float) → Held s → Held (tightened floor s b d)
 unfolding tightened
 step-held floor s b d h = go (limits d) (lt (motorLimit floor b d) s) refl
   where
@@ -50,6 +53,18 @@ walk-held floor s (b ∷ bs) [] h = h
 walk-held floor s (b ∷ bs) (d ∷ ds) h = walk-held floor (tightened floor s b d) bs ds (step-held floor s b d h)
 
 -- ---- the end
+
+-- a held scale that is not finite is negative
+pub held-settles : (s : Float) → Held s → cond (lt s 0f) 0f s ≡ settled s
+unfolding settled isNan
+held-settles nan h = absurd (h .number .number)
+held-settles (inf true) h = unfold lt ofBits in refl
+held-settles (inf false) h = absurd (true≢false (sym (unfold le lt eq ofBits in h .most)))
+held-settles (fin s m e) h = go (lt (fin s m e) 0f)
+  where
+    go : (p : Bool) → cond p 0f (fin s m e) ≡ cond (p || false) 0f (fin s m e)
+    go true = refl
+    go false = refl
 
 settled-between : (s : Float) → Held s → Between 0f 1f (settled s)
 unfolding settled

@@ -82,7 +82,7 @@ walk-fitting floor (b ∷ bs) (d ∷ ds) hf fb fd w =
     ap (λ (s : Float). walk floor s bs ds) (motor-fitting floor b d hf (fb 0) (fd 0) (w .0))
     ∙ walk-fitting floor bs ds hf (λ k. fb (suc k)) (λ k. fd (suc k)) (w .1)
 
-one-settles : settled 1f ≡ 1f
+pub one-settles : settled 1f ≡ 1f
 unfolding settled lt ofBits
 one-settles = refl
 

@@ -14,12 +14,17 @@ pub walk-next : (floor s : Float) (bs ds : List Float) (i : ℕ) → i < length 
 unfolding walk
 walk-next floor s bs ds i p q = rw (add-one, drop-cons bs i nan p, drop-cons ds i nan q)
 
--- nothing is left of one of two lists: the walk is over
-over : (floor s : Float) (bs ds : List Float) → min (length bs) (length ds) ≡ 0 → walk floor s bs ds ≡ s
-unfolding walk
-over floor s [] ds h = refl
-over floor s (b ∷ bs) [] h = refl
-over floor s (b ∷ bs) (d ∷ ds) h = let no : ⊥ = omega arith in absurd no
+-- what holds where one of two lists has nothing, at a place past the shorter one
+pub past-shorter : (P : List Float → List Float → Type 0) → ((ds : List Float) → P [] ds) → ((b : Float) (bs : List Float) → P (b ∷ bs) [])
+    → (bs ds : List Float) (i : ℕ) → min (length bs) (length ds) ≤ i → P (drop i bs) (drop i ds)
+past-shorter P none-first none-second bs ds i h = go (drop i bs) (drop i ds) (simp length-drop (omega arith))
+  where
+    go : (bs ds : List Float) → min (length bs) (length ds) ≡ 0 → P bs ds
+    go [] ds h = none-first ds
+    go (b ∷ bs) [] h = none-second b bs
+    go (b ∷ bs) (d ∷ ds) h = let no : ⊥ = omega arith in absurd no
 
+-- nothing is left of one of two lists: the walk is over
 pub walk-over : (floor s : Float) (bs ds : List Float) (i : ℕ) → min (length bs) (length ds) ≤ i → walk floor s (drop i bs) (drop i ds) ≡ s
-walk-over floor s bs ds i h = over floor s (drop i bs) (drop i ds) (simp length-drop (omega arith))
+unfolding walk
+walk-over floor s = past-shorter (λ bs ds. walk floor s bs ds ≡ s) (λ ds. refl) (λ b bs. refl)
