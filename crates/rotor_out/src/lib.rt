@@ -10,6 +10,7 @@ use rotors::rows::M2;
 use rotors::rows::M3;
 use rotors::rows::M4;
 use rotors::rows::MIXER_X;
+use solve::Solution;
 use solve::solve3;
 ghost use mathlib.Core.Path.{_≡_};
 ghost use mathlib.Core.Bool.{cond};
@@ -71,24 +72,49 @@ fn placed(failed: usize, x: [f32; 3]) -> [f32; 4]
     v
 }
 
-// The commands that give three times the thrust and no moment.
-fn base_without(failed: usize, t: f32) -> [f32; 4]
-    requires { ⌜ failed < 4 ⌝ }
-    ensures { λ b. ⌜ b ≡ baseWithout failed t ⌝ }
-{
-    let found = solve3(equations(failed), [3.0 * t, 0.0, 0.0]);
-    let x = found.x;
-    placed(failed, x)
+// The two parts of each rotor's command: what gives three times the thrust and no moment, and what gives roll and pitch and no thrust.
+struct Split {
+    base: [f32; 4],
+    delta: [f32; 4],
 }
 
-// The commands that give roll and pitch and no thrust.
-fn delta_without(failed: usize, r: f32, p: f32) -> [f32; 4]
+fn both(failed: usize, base: Solution, delta: Solution) -> Split
     requires { ⌜ failed < 4 ⌝ }
-    ensures { λ d. ⌜ d ≡ deltaWithout failed r p ⌝ }
+    ensures { λ x. ⌜ x ≡ record { base = placed failed (base .x); delta = placed failed (delta .x) } ⌝ }
 {
-    let found = solve3(equations(failed), [0.0, r, p]);
-    let x = found.x;
-    placed(failed, x)
+    let b = base.x;
+    let d = delta.x;
+    Split {
+        base: placed(failed, b),
+        delta: placed(failed, d),
+    }
+}
+
+// Each lost rotor has its own line, so that the compiler solves beforehand as much of the equations as no command changes.
+fn split_without(failed: usize, t: f32, r: f32, p: f32) -> Split
+    requires { ⌜ failed < 4 ⌝ }
+    ensures { λ x. ⌜ x ≡ record { base = baseWithout failed t; delta = deltaWithout failed r p } ⌝ }
+{
+    let thrust = [3.0 * t, 0.0, 0.0];
+    let tilt = [0.0, r, p];
+    match failed {
+        0 => {
+            let a = equations(0);
+            both(0, solve3(a, thrust), solve3(a, tilt))
+        }
+        1 => {
+            let a = equations(1);
+            both(1, solve3(a, thrust), solve3(a, tilt))
+        }
+        2 => {
+            let a = equations(2);
+            both(2, solve3(a, thrust), solve3(a, tilt))
+        }
+        _ => {
+            let a = equations(3);
+            both(3, solve3(a, thrust), solve3(a, tilt))
+        }
+    }
 }
 
 // A motor's command where a rotor is lost: the lost one's is +0.
@@ -121,12 +147,10 @@ fn allotted(failed: usize, floor: f32, t: f32, r: f32, p: f32) -> [f32; 4]
     if failed >= 4 {
         return none_lost(floor, t, r, p);
     }
-    motors_without(
-        failed,
-        floor,
-        base_without(failed, t),
-        delta_without(failed, r, p),
-    )
+    let x = split_without(failed, t, r, p);
+    let base = x.base;
+    let delta = x.delta;
+    motors_without(failed, floor, base, delta)
 }
 
 // Rotor `failed`, 0 to 3, is lost and commanded +0; the other three share thrust, roll and pitch, and yaw is given up. With a number of 4 or more none is lost.

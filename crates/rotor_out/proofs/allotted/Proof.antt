@@ -9,21 +9,8 @@ returns c = simp (c .none-lost .ensures, le-ltb (c .before .before .args .failed
 
 returns-2 : tie.Need-returns-2
 returns-2 c =
-    let start = c .before .before .before in
-    simp (
-      c .motors-without .ensures,
-      c .before .delta-without .ensures,
-      c .before .before .base-without .ensures,
-      lt-ltb (start .before .args .failed) 4 (start .if1 .left),
-    )
+    let told = c .before .before .before in
+    simp (c .motors-without .ensures, told .split-without .ensures, lt-ltb (told .before .before .args .failed) 4 (told .before .if1 .left))
 
 pub allotted-spec : {M : Type 1} → statement M
-allotted-spec =
-    tie.close
-    (tie.spec
-    (λ c κs. search needs)
-    returns
-    (λ c κs. search needs)
-    (λ c κs. search needs)
-    (λ c κs. search needs)
-    returns-2)
+allotted-spec = tie.close (tie.spec (λ c κs. search needs) returns (λ c κs. search needs) (λ c κs. search needs) returns-2)
