@@ -4,23 +4,26 @@ use extremes::largest;
 use number::clamp_floor;
 use number::pick;
 ghost use mathlib.Core.Path.{_≡_};
-ghost use Rattle.rules.specs.Plain.{loweredBy, lowerLimited};
+ghost use mathlib.Core.Bool.{cond};
+ghost use lib.Ieee.{lt};
+ghost use Rattle.binary32.specs.Arithmetic.{_-f_, 0f, 1f};
+ghost use Rattle.rules.specs.Plain.{lowerLimited};
 
-// v less what the largest has over 1: all motors go down together, so the torque is kept and thrust is given up.
-fn lower(max: f32, v: f32) -> f32
-    ensures { λ r. ⌜ r ≡ loweredBy max v ⌝ }
+// What is taken from every motor: what the largest has over 1, or +0, which changes none. All go down together, so the torque is kept and thrust is given up.
+fn excess(max: f32) -> f32
+    ensures { λ r. ⌜ r ≡ cond (lt 1f max) (max -f 1f) 0f ⌝ }
 {
-    pick(max > 1.0, v - (max - 1.0), v)
+    pick(max > 1.0, max - 1.0, 0.0)
 }
 
 // The largest ends at 1 only up to 2^24: from above that the difference is rounded, and the cut decides.
 pub fn lower_and_limit(m: &mut [f32])
     ensures { λ _. ⌜ now (m .exit) ≡ lowerLimited (now (m .entry)) ⌝ }
 {
-    let max = largest(m);
+    let over = excess(largest(m));
     let mut i = 0;
     while i < m.len() {
-        m[i] = clamp_floor(lower(max, m[i]), 0.0);
+        m[i] = clamp_floor(m[i] - over, 0.0);
         i += 1;
     }
 }

@@ -1,0 +1,2 @@
+-- The excess that is taken from every motor.
+pub mod Taken
