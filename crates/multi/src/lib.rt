@@ -50,13 +50,14 @@ fn refused(floats: usize, outputs: usize) -> bool
     outputs > MAX_OUTPUTS || floats != 4 * outputs
 }
 
-// Each output from its row.
+// Each output from its row. The loop's test is the one that `row_at` makes, so that the compiler leaves that out and takes four rows at once.
 fn allocate(rows: &[f32], w: Wrench, out: &mut [f32])
     requires { ⌜ length (now rows) ≡ 4 * length (now out) ⌝ }
     ensures { λ _. ⌜ now (out .exit) ≡ motorsOf w (rowsOf (now (rows .entry))) ⌝ }
 {
+    let n = rows.len() / 4;
     let mut i = 0;
-    while i < out.len() {
+    while i < n {
         let row = row_at(rows, i);
         out[i] = clamp01(raw_sum(row, w.thrust, w.roll, w.pitch, w.yaw));
         i += 1;

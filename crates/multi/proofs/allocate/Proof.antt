@@ -21,10 +21,10 @@ abbrev motorOf : Wrench → Row → Float
 motorOf w row = unitClamp (rawSum (w .thrust) (w .roll) (w .pitch) (w .yaw) row)
 
 abbrev Inv-loop : tie.InvT-loop
-Inv-loop rows w out₀ i₀ out i = (i ≤ length out₀) × (length out ≡ length out₀) × (out ≡ filled out₀ (map (motorOf w) (rowsOf rows)) i)
+Inv-loop rows w out₀ n i₀ out i = (i ≤ length out₀) × (length out ≡ length out₀) × (out ≡ filled out₀ (map (motorOf w) (rowsOf rows)) i)
 
 abbrev μ-loop : tie.MeasureT-loop
-μ-loop rows w out₀ i₀ out i = length out₀ - i
+μ-loop rows w out₀ n i₀ out i = length out₀ - i
 
 mul-out : tie.Need-mul-out Inv-loop μ-loop
 mul-out c =
