@@ -2,8 +2,8 @@
 //! the same memory. A state stands in five floats, four motors and the scale, and a mix changes it
 //! there; what the Rust's mix returns besides is dropped, so that it need not be stored twice.
 //!
-//! Each is called through a pointer, as ours are, so nothing of it is known where it is called; the
-//! Rust's own functions may be inlined into these.
+//! Each is called through a pointer, as ours are, so nothing of it is known where it is called. It calls
+//! the Rust's function, or has it inlined where the crates are optimized together.
 
 use relay_mix_multi::{Mixer, Wrench};
 use relay_mix_quad::{MixerN, QuadMixer};

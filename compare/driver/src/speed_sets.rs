@@ -1,5 +1,7 @@
 //! The commands that are timed: two sets, a million in each, and the same million as sheets.
 
+use relay_mix_quad::QuadMixer;
+
 use crate::inputs::Random;
 
 /// How many commands a set has, and how many of them are timed at once. Both are whole numbers of
@@ -47,9 +49,9 @@ pub struct Set {
 pub const SETS: [Set; 2] = [
     Set {
         name: "ordinary",
-        thrust: [0.35, 0.65],
-        tilt: 0.15,
-        yaw: 0.05,
+        thrust: [0.3, 0.7],
+        tilt: 0.2,
+        yaw: 0.1,
         floor: 0.1,
     },
     Set {
@@ -65,15 +67,32 @@ pub const SETS: [Set; 2] = [
 pub fn told() -> String {
     let sets = SETS.map(|set| {
         let [from, to] = set.thrust;
+        let Set {
+            name,
+            tilt,
+            yaw,
+            floor,
+            ..
+        } = set;
+        let whole = 100 * fitting(&set) / COMMANDS;
         format!(
-            "{}: thrust {from} to {to}, roll and pitch up to {}, yaw up to {}, floor up to {}",
-            set.name, set.tilt, set.yaw, set.floor
+            "{name}: thrust {from} to {to}, roll and pitch up to {tilt}, yaw up to {yaw}, floor up to {floor}; thrust-floor scales nothing of {whole} % of them"
         )
     });
     format!(
         "{COMMANDS} commands in each set, seed {SEED}\n{}",
         sets.join("\n")
     )
+}
+
+/// How many commands of a set the Rust's thrust-floor gives all of their torque.
+fn fitting(set: &Set) -> usize {
+    let fits = |c: &Asked| {
+        let mut mixer = QuadMixer::new();
+        mixer.mix_thrust_floor(*c.torque(), c.thrust(), c.floor);
+        mixer.last_torque_scale() == 1.0
+    };
+    commands(set).iter().filter(|c| fits(c)).count()
 }
 
 /// Command n of a set. A rotor is lost for a fifth of the commands at a time, as in a flight.

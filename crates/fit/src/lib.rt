@@ -1,8 +1,8 @@
 // The fit scale over lent bases and deltas of any count. Follows relay-mix-quad's `scale_to_fit` (Apache-2.0, see NOTICE); changed: written in Rattle
-// with a contract, over slices in the place of arrays of four, and with one quotient for both signs of a delta.
+// with a contract, over slices in the place of arrays of four, with one quotient for both signs of a delta, and with a look first whether any motor puts a limit under 1.
 ghost use mathlib.Core.Path.{_≡_};
-ghost use Prim.Native.Nat.{min};
 ghost use mathlib.Core.Bool.{false, _||_};
+ghost use Prim.Native.Nat.{min};
 ghost use lib.Ieee.{lt};
 ghost use Rattle.binary32.specs.Arithmetic.{1f};
 ghost use Rattle.fit.specs.Fit.{limitOf, isCut, tightened, fitScale, Scaled};
@@ -20,7 +20,7 @@ fn limit_of(b: f32, d: f32, floor: f32) -> f32
     pick(size > SMALL, room / size, 1.0)
 }
 
-// The scale held, which is at most 1, after a motor more.
+// The scale held, which is at most 1, after a motor more: its limit, if that is strictly smaller.
 fn tighten(s: f32, b: f32, d: f32, floor: f32) -> f32
     requires { ⌜ lt 1f s ≡ false ⌝ }
     ensures { λ r. ⌜ r ≡ tightened floor s b d ⌝ }

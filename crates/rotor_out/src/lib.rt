@@ -1,5 +1,5 @@
 // The mix for a lost rotor. Follows relay-mix-quad's `mix_rotor_out` (Apache-2.0, see NOTICE); changed: written in Rattle with contracts, with
-// choices in the place of branches and the loops over four motors written out.
+// choices in the place of branches, the loops over four motors written out, and the lost rotor's number written out where its equations are solved.
 use number::clamp;
 use number::clamp_floor;
 use number::limit;
