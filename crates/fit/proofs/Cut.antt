@@ -6,7 +6,7 @@ use Prim.Native.Nat.{ℕ, _+_, _≤_, _<_, min}
 use native.Mathlib.Numerals.{add-one}
 use lib.ListN.{length, getD, drop}
 use lib.Seq.{drop-cons}
-use lib.Ieee.{Float, nan, lt, ofBits}
+use lib.Ieee.{Float, nan, lt}
 use Rattle.binary32.specs.Arithmetic.{1f}
 use Rattle.fit.specs.Fit.{limitOf, isCut, tightened, walk, settled, fitScale}
 use Rattle.fit.proofs.Step.{limited-step}
