@@ -111,7 +111,7 @@ enum footspandle_number {
     FOOTSPANDLE_BAD_LENGTH = 4,   /* its length field is not its length, or the contents do not fit in it */
     FOOTSPANDLE_BAD_KIND = 5,     /* an entry's kind is over 4 */
     FOOTSPANDLE_BAD_ROTOR = 6,    /* an entry's rotor byte is not 0, and its kind is not 4 */
-    FOOTSPANDLE_BAD_OFFSET = 7,   /* an entry's body does not begin where the one before it ends */
+    FOOTSPANDLE_BAD_OFFSET = 7,   /* an entry's body does not begin where the one before it ends (the first: the contents) */
     FOOTSPANDLE_BAD_END = 8,      /* the last body does not end where the sheet does */
     FOOTSPANDLE_SHORT_OUTPUT = 9, /* the output has under 20 bytes for each entry */
     FOOTSPANDLE_BAD_ROWS = 10     /* over 64 outputs, or rows that are not four floats for each */
@@ -147,7 +147,8 @@ float footspandle_quad_last_torque_scale(const footspandle_quad *state);
  * The five mixes. Each takes a state, a command, and writes its answer, four motors, to
  * state->last_motors; what stood there before does not matter. Every motor lies in 0..1 for every
  * command, so that none is a NaN. A NaN or an infinity in the torque asks for no torque on that axis,
- * and as a thrust it asks for no thrust.
+ * and as a thrust it asks for no thrust. Where the recorded scale stays and is a NaN, which only a
+ * caller can have put there, it may be another NaN afterwards.
  */
 
 /*
@@ -163,7 +164,8 @@ void footspandle_quad_mix(footspandle_quad *state, const float torque_body[3], f
 
 /*
  * Thrust-floor: keeps the thrust, and gives up torque by one scale. The collective is the limited
- * thrust, or the floor where the thrust is under it.
+ * thrust, or the floor where the thrust is under it. The scale starts at 1, and each motor whose delta
+ * is over 1e-6 in size limits it to the room that the delta has, to 1 or to the floor, by the delta.
  * Promised: every motor lies from the floor to 1. A command that fits is not cut: each motor is the
  * exact sum of collective and delta, rounded once, zero's sign aside, and the scale is 1. A larger
  * delta never gets a smaller motor.
@@ -185,7 +187,9 @@ void footspandle_quad_mix_priority(footspandle_quad *state, const float torque_b
 
 /*
  * Airmode: keeps the torque as far as it fits between the idle floor and 1, and moves the thrust up
- * or down for it. The collective is the limited thrust, even under the idle floor.
+ * or down for it. The collective is the limited thrust, even under the idle floor. Where the deltas are
+ * spread wider than idle to 1, all are scaled by the room over the spread; then all motors are shifted
+ * up so that the lowest is at idle or, if it is not under that, down so that the highest is at 1.
  * Promised: every motor lies from the idle floor to 1. A command that fits is not cut: each motor is
  * the exact sum of collective and delta, rounded once, zero's sign aside.
  * The recorded scale stays.
@@ -195,7 +199,10 @@ void footspandle_quad_mix_airmode(footspandle_quad *state, const float torque_bo
 /*
  * Rotor-out: thrust, roll and pitch on the three rotors that are left where `failed` is 0 to 3 (M1 to
  * M4). A number of 4 or more means that none is lost: nothing is scaled then, and each motor is cut
- * alone. Yaw is dropped. Roll and pitch count as limited to -8..8.
+ * alone. Yaw is dropped. Roll and pitch count as limited to -8..8, and thrust as limited; it is not lifted
+ * to the floor. The three rotors that are left are to give three times the thrust together, where four
+ * gave four times it, and with it roll and pitch, which share one scale, found as in thrust-floor. What
+ * yaw that gives is not looked at.
  * Promised: a lost rotor is +0, and every other motor lies from the floor to 1. Of the torque nothing
  * is promised: a floor over 0 lifts the rotor opposite to the lost one, which tilts the aircraft, and
  * can turn the roll or pitch that was asked for round (docs/DIFFERENCES.md, F17 and F18).

@@ -9,7 +9,7 @@ use crate::frames::{
     frame_calls, frame_motors, frames, wrenches, Frame, Wrench, ANY_ROWS, ROTOR_ROWS,
 };
 use crate::inputs::once;
-use crate::lent::{lent_at_any_length, lent_rows};
+use crate::lent_rows::{lent_at_any_length, lent_rows};
 use crate::special::special_fours;
 use crate::{ours, rust};
 

@@ -25,7 +25,7 @@ mod frames;
 #[allow(dead_code)]
 mod inputs;
 #[allow(dead_code)]
-mod lent;
+mod lent_rows;
 mod list_frame;
 mod list_quad;
 mod list_sheets;

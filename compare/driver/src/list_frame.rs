@@ -17,7 +17,7 @@ use crate::frames::{
     frame_calls, frame_motors, wrenches, Frame, Rows, Wrench, ANY_ROWS, ROTOR_ROWS,
 };
 use crate::inputs::{seeded, Inputs, Random};
-use crate::lent::{lent_kinds, lent_of, Lent};
+use crate::lent_rows::{lent_kinds, lent_of, Lent};
 use crate::rust::{self, bits};
 use crate::special::{special_fours, TOP};
 use crate::{words, List, Record};

@@ -19,7 +19,7 @@ mod findings;
 mod frame_table;
 mod frames;
 mod inputs;
-mod lent;
+mod lent_rows;
 mod ours;
 mod ours_sheet;
 mod quad_table;

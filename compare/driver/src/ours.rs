@@ -6,7 +6,7 @@ use crate::commands::{Call, Mix, State};
 use crate::exported;
 use crate::frames::{Frame, Wrench};
 use crate::inputs::LENT;
-use crate::lent::{After, Lent, MOST_LENT};
+use crate::lent_rows::{After, Lent, MOST_LENT};
 
 mod probes {
     extern "C" {

@@ -10,7 +10,7 @@ use relay_mix_quad::{MixerN, QuadMixer};
 use crate::commands::{Call, Mix, State};
 use crate::frames::{Frame, Wrench};
 use crate::inputs::{Fit, System, LENT};
-use crate::lent::{After, Lent, MOST, MOST_LENT};
+use crate::lent_rows::{After, Lent, MOST, MOST_LENT};
 
 /// The limited thrust or floor.
 pub fn limit(&x: &f32) -> f32 {

@@ -15,7 +15,7 @@ mod frames;
 #[allow(dead_code)]
 mod inputs;
 #[allow(dead_code)]
-mod lent;
+mod lent_rows;
 #[allow(dead_code)]
 mod rust;
 #[allow(dead_code)]

@@ -11,7 +11,7 @@ use crate::frames::{
     frame_calls, frame_motors, frames, wrenches, Frame, Wrench, ANY_ROWS, ROTOR_ROWS,
 };
 use crate::inputs::{every_float, LENT};
-use crate::lent::{lent_at_any_length, lent_rows, After, Lent, MOST_LENT};
+use crate::lent_rows::{lent_at_any_length, lent_rows, After, Lent, MOST_LENT};
 use crate::rust;
 
 pub fn wrong_frame_table() -> Vec<Row> {

@@ -16,7 +16,10 @@ use Rattle.lent.specs.Lent.{Updated}
 use Rattle.lent.specs.Five.{motorsIn, scaleIn, mixer, five, FloatsOf}
 
 -- where a contract of the mix by value determines the state, so does that of the mix over a lent one, and the motors that are handed back
-pub updated-determined : {Gives : QuadMixer → Type 0} → Determined Gives → (after other : QuadMixer) (motors others : List Float) → Updated Gives after motors → Updated Gives other others → (after ≡ other) × (motors ≡ others)
+abbrev Both : (QuadMixer → List Float → Type 0) → Type 0
+Both P = (after other : QuadMixer) (motors others : List Float) → P after motors → P other others → (after ≡ other) × (motors ≡ others)
+
+pub updated-determined : {Gives : QuadMixer → Type 0} → Determined Gives → Both (Updated Gives)
 updated-determined one after other motors others h k =
     let same : after ≡ other = one after other (h .given) (k .given) in
     (same, h .stored ∙ ap (λ (q : QuadMixer). q .«last_motors») same ∙ sym (k .stored))
@@ -26,6 +29,22 @@ pub floats-determined : {P : QuadMixer → Type 0} → Determined P → Determin
 floats-determined one r q h k = h .floats-are ∙ ap five (one (h .state) (k .state) (h .holds) (k .holds)) ∙ sym (k .floats-are)
 
 -- ---- the public functions
+
+module _ (torque : List Float) (thrust floor : Float) (failed : ℕ) (before : QuadMixer) where
+  pub mix-lent-determined : Both (Updated (PlainGives before torque thrust))
+  mix-lent-determined = updated-determined (mix-determined torque torque thrust floor failed before)
+
+  pub mix-thrust-floor-lent-determined : Both (Updated (ThrustFloorGives before torque thrust floor))
+  mix-thrust-floor-lent-determined = updated-determined (mix-thrust-floor-determined torque torque thrust floor failed before)
+
+  pub mix-priority-lent-determined : Both (Updated (PriorityGives before torque thrust floor))
+  mix-priority-lent-determined = updated-determined (mix-priority-determined torque torque thrust floor failed before)
+
+  pub mix-airmode-lent-determined : Both (Updated (AirmodeGives before torque thrust floor))
+  mix-airmode-lent-determined = updated-determined (mix-airmode-determined torque torque thrust floor failed before)
+
+  pub mix-rotor-out-lent-determined : Both (Updated (RotorOutGives before failed torque thrust floor))
+  mix-rotor-out-lent-determined = updated-determined (mix-rotor-out-determined torque torque thrust floor failed before)
 
 module _ (torque before : List Float) (thrust floor : Float) (failed : ℕ) where
   pub fresh-determined : Determined (λ r. r ≡ five fresh)

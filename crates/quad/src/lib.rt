@@ -63,7 +63,7 @@ impl QuadMixer {
         self.last_torque_scale
     }
 
-    // Priority: thrust before roll and pitch, these before yaw, each motor in floor..1. No one number says what was given, so the recorded scale stays.
+    // Priority: thrust before torque, which is given up in two groups, yaw, and roll and pitch; each motor in floor..1. The yaw's scale is found first, with roll and pitch in full. No one number says what was given, so the recorded scale stays.
     pub fn mix_priority(self, torque_body: [f32; 3], thrust: f32, floor: f32) -> QuadMixer
         ensures { λ r. ⌜ PriorityGives self «torque_body» thrust floor r ⌝ }
     {
