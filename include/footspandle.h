@@ -188,8 +188,9 @@ void footspandle_quad_mix_priority(footspandle_quad *state, const float torque_b
 /*
  * Airmode: keeps the torque as far as it fits between the idle floor and 1, and moves the thrust up
  * or down for it. The collective is the limited thrust, even under the idle floor. Where the deltas are
- * spread wider than idle to 1, all are scaled by the room over the spread; then all motors are shifted
- * up so that the lowest is at idle or, if it is not under that, down so that the highest is at 1.
+ * spread wider than idle to 1, all are scaled by the room over the spread. Then, if the lowest motor is
+ * under idle, all are shifted up to bring it there, or else, if the highest is over 1, down to bring it
+ * there.
  * Promised: every motor lies from the idle floor to 1. A command that fits is not cut: each motor is
  * the exact sum of collective and delta, rounded once, zero's sign aside.
  * The recorded scale stays.
