@@ -8,7 +8,8 @@ use lib.ListN.{length, getD, drop}
 use lib.Seq.{drop-cons}
 use lib.Ieee.{Float, nan, lt}
 use Rattle.binary32.specs.Arithmetic.{1f}
-use Rattle.fit.specs.Fit.{limitOf, isCut, tightened, walk, settled, fitScale}
+use Rattle.fit.specs.Cut.{limitOf, isCut}
+use Rattle.fit.specs.Fit.{tightened, walk, settled, fitScale}
 use Rattle.fit.proofs.Step.{limited-step}
 use Rattle.fit.proofs.Walk.{past-shorter}
 use Rattle.fit.proofs.Bounded.{one-held, not-above}

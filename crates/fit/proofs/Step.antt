@@ -4,7 +4,8 @@ use mathlib.Core.Bool.{Bool, true, false, _&&_, _||_, cond}
 use lib.Ieee.{Float, lt, neg}
 use Rattle.binary32.specs.Arithmetic.{_-f_, _/f_, 1f, small}
 use Rattle.binary32.proofs.Order.{lt-minus}
-use Rattle.fit.specs.Fit.{limits, motorLimit, limitOf, tightened}
+use Rattle.fit.specs.Cut.{limitOf}
+use Rattle.fit.specs.Fit.{limits, motorLimit, tightened}
 
 -- the delta's size where it is farther than `small` from zero, and the quotient by it
 abbrev pub sizeOf : Float → Float

@@ -1,7 +1,7 @@
 -- The fit scale: the smallest of the limits that the motors put on their deltas, at most 1 (document 01, 'Treating the numbers': "Fit scale" and "Small"), over
 -- any count of motors. Definitions only; the quotations are document 01's.
 use mathlib.Core.Path.{_≡_}
-use mathlib.Core.Bool.{Bool, false, not, _&&_, _||_, cond}
+use mathlib.Core.Bool.{Bool, not, _&&_, _||_, cond}
 use mathlib.Core.List.{List, [], _∷_}
 use lib.Dec.{T}
 use lib.Ieee.{Float, lt, neg}
@@ -34,18 +34,6 @@ settled s = cond (lt s 0f || not (finite s)) 0f s
 -- "start at 1"
 unfoldable pub fitScale : Float → List Float → List Float → Float
 fitScale floor bs ds = settled (walk floor 1f bs ds)
-
--- ---- what the code asks of a motor by itself
-
--- the limit of one motor, or 1, which is none
-unfoldable pub limitOf : Float → Float → Float → Float
-limitOf floor b d = cond (limits d) (motorLimit floor b d) 1f
-
--- whether some motor's limit is under 1, as far as the shorter list goes
-unfoldable pub isCut : Float → List Float → List Float → Bool
-isCut floor [] ds = false
-isCut floor (b ∷ bs) [] = false
-isCut floor (b ∷ bs) (d ∷ ds) = lt (limitOf floor b d) 1f || isCut floor bs ds
 
 -- ---- what the scale promises
 

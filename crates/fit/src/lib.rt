@@ -5,7 +5,8 @@ ghost use mathlib.Core.Bool.{false, _||_};
 ghost use Prim.Native.Nat.{min};
 ghost use lib.Ieee.{lt};
 ghost use Rattle.binary32.specs.Arithmetic.{1f};
-ghost use Rattle.fit.specs.Fit.{limitOf, isCut, tightened, fitScale, Scaled};
+ghost use Rattle.fit.specs.Cut.{limitOf, isCut};
+ghost use Rattle.fit.specs.Fit.{tightened, fitScale, Scaled};
 use number::SMALL;
 use number::pick;
 

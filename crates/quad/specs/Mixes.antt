@@ -1,5 +1,6 @@
 -- What each mix of the quad gives from the state before it (document 01, 'The five quad mixes'): the motors of its rule, the recorded scale, and what is promised
--- of them. The contracts cite these, on a state by value, on a lent one and on its floats alike. Definitions only; the quotations are document 01's.
+-- of them. The contracts cite these, on a state by value, on a lent one and on its floats alike. Each takes that
+-- state, also where nothing that is given depends on it, so that they are cited alike. Definitions only; the quotations are document 01's.
 use mathlib.Core.List.{List}
 use Prim.Native.Nat.{ℕ}
 use lib.Ieee.{Float}

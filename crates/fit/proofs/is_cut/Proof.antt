@@ -6,7 +6,7 @@ use native.Mathlib.Omega.{arith}
 use lib.ListN.{length, drop}
 use denote.Ref.{now}
 use borrow.Author.Needs.{needs, scaled-fits}
-use Rattle.fit.specs.Fit.{isCut}
+use Rattle.fit.specs.Cut.{isCut}
 use Rattle.fit.proofs.Cut.{or-none, cut-next, cut-over}
 use Rattle.fit.proofs.is_cut.Statement.{statement}
 use Rattle.fit.proofs.is_cut.Tie as tie
