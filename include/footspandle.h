@@ -229,6 +229,9 @@ void footspandle_motors_to_torque_signs(const float motors[4], float sums[3]);
 /* Copies the rows as they are, NaNs among them, and answers the count n, a count over 8 as 8. */
 size_t footspandle_mixer_n_new(const float rows[32], size_t n, float mix[32]);
 
+/* The count of a MixerN: n itself, also over 8, since only footspandle_mixer_n_new cuts it. */
+size_t footspandle_mixer_n_n(const float mix[32], size_t n);
+
 /* Writes the quad's four rows and four rows of +0, and answers the count 4. */
 size_t footspandle_mixer_n_quad_x(float mix[32]);
 

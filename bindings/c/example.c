@@ -78,7 +78,7 @@ static void fly_matrix(void) {
            given.roll, given.pitch, given.yaw);
     footspandle_octo_coax(rows);
     n = footspandle_mixer_n_new(rows, 9, matrix);
-    printf("MixerN of 9 rotors   has %u\n", (unsigned)n);
+    printf("MixerN of 9 rotors   has %u\n", (unsigned)footspandle_mixer_n_n(matrix, n));
 }
 
 static void fly_rows(void) {

@@ -38,6 +38,9 @@ module _ (rows torque motors : List Float) (thrust : Float) (count n m : ℕ) (m
   pub mixer-n-new-determined : passed mix n ≡ made rows count → passed other m ≡ made rows count → (n ≡ m) × (mix ≡ other)
   mixer-n-new-determined = passed-determined (made rows count) n m mix other
 
+  pub mixer-n-n-determined : Determined (λ r. r ≡ passed mix n .n)
+  mixer-n-n-determined = equal-determined
+
   pub mixer-n-quad-x-determined : passed mix n ≡ made (runOf quadXRows) 4 → passed other m ≡ made (runOf quadXRows) 4 → (n ≡ m) × (mix ≡ other)
   mixer-n-quad-x-determined = passed-determined (made (runOf quadXRows) 4) n m mix other
 

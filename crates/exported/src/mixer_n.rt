@@ -1,5 +1,5 @@
-// `MixerN`, exported to C. A mixer is lent as its 32 floats, eight rows of thrust, roll, pitch and yaw, and passes with its count. There is no function for the count:
-// it is what the two that make a mixer answer.
+// `MixerN`, exported to C. A mixer is lent as its 32 floats, eight rows of thrust, roll, pitch and yaw, and passes with its count, which is
+// what the two that make a mixer answer.
 use frame::MixerN;
 ghost use mathlib.Core.Path.{_≡_};
 ghost use Rattle.rules.specs.Rows.{rowsOf, runOf, quadXRows};
@@ -17,6 +17,16 @@ pub extern "C" fn footspandle_mixer_n_new(rows: &[f32; 32], n: usize, mix: &mut 
     let matrix = mixer.mix;
     *mix = matrix;
     mixer.n
+}
+
+// The count: the one that the mixer passes with.
+#[no_mangle]
+pub extern "C" fn footspandle_mixer_n_n(mix: &[f32; 32], n: usize) -> usize
+    ensures { λ r. ⌜ r ≡ passed (now (mix .entry)) n .n ⌝ }
+{
+    let matrix = *mix;
+    let mixer = MixerN { mix: matrix, n };
+    mixer.n()
 }
 
 #[no_mangle]

@@ -46,6 +46,7 @@ extern "C" {
         floor: f32,
     );
     fn footspandle_motors_to_torque_signs(motors: *const [f32; 4], sums: *mut [f32; 3]);
+    fn footspandle_mixer_n_n(mix: *const Rows, n: usize) -> usize;
     fn footspandle_mixer_n_quad_x(mix: *mut Rows) -> usize;
     fn footspandle_mixer_n_mix(
         mix: *const Rows,
@@ -137,6 +138,11 @@ pub fn motors_to_torque_signs(motors: &[f32; 4]) -> [f32; 3] {
 // ---- MixerN
 
 /// The rows, and the count.
+pub fn mixer_n_n(mix: &Rows, n: usize) -> usize {
+    // SAFETY: `mix` points to a whole value, which is only read.
+    unsafe { footspandle_mixer_n_n(mix, n) }
+}
+
 pub fn mixer_n_quad_x() -> (Rows, usize) {
     let mut mix = [[0.0; 4]; MAX_ROTORS];
     // SAFETY: `mix` is a local of 32 floats.

@@ -119,7 +119,7 @@ impl MixerN {
 
     /// The count.
     pub fn n(&self) -> usize {
-        self.n
+        exported::mixer_n_n(&self.mix, self.n)
     }
 
     /// The quad's four rows, four rows of +0, and the count 4.
