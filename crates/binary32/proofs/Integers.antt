@@ -2,7 +2,7 @@
 -- and the order of integers are those of such pairs, and `rounding` of an integer is the rounding of its pair. Assumes nothing.
 use mathlib.Core.Path.{_≡_, refl, ap}
 use Prim.Native.Nat.{ℕ, zero, suc, _+_, _-_, _*_, _≤_, _<_}
-use native.Mathlib.Nat.{add-mul, mul-add}
+use native.Mathlib.Nat.{add-mul, mul-add, mul-zero}
 use native.Mathlib.Omega.{arith}
 use mathlib.Core.Bool.{Bool, true, false, cond}
 use borrow.Author.Tests.{ltb-true, ltb-false, lt-ltb, le-ltb}
@@ -86,6 +86,11 @@ same-integer {z = pos a} {w = negsuc b} hz hw e = let no : ⊥ = omega arith in 
 same-integer {z = negsuc a} {w = pos b} hz hw e = let no : ⊥ = omega arith in absurd no
 same-integer {z = negsuc a} {w = negsuc b} hz hw e = let same : a ≡ b = omega arith in ap negsuc same
 
+-- and one integer has equal differences
+pub same-difference : {z : ℤ} {p n q m : ℕ} → Difference z p n → Difference z q m → p + m ≡ q + n
+same-difference {z = pos a} h k = omega arith
+same-difference {z = negsuc a} h k = omega arith
+
 -- ---- sums and products
 
 -- only the difference counts
@@ -114,6 +119,12 @@ product-of {z = pos a} {w = pos b} hz hw = record { is = simp (hz .is, hw .is, m
 product-of {z = pos a} {w = negsuc b} hz hw = less-by (a * suc b) (simp (hz .is, hw .is, mul-add, add-mul) (omega arith))
 product-of {z = negsuc a} {w = pos b} hz hw = less-by (suc a * b) (simp (hz .is, hw .is, mul-add, add-mul) (omega arith))
 product-of {z = negsuc a} {w = negsuc b} hz hw = record { is = simp (hz .is, hw .is, mul-add, add-mul) (omega arith) }
+
+-- a multiple
+pub times-of : {z : ℤ} {p n : ℕ} → Difference z p n → (k : ℕ) → Difference (z *ℤ pos k) (p * k) (n * k)
+times-of {p} {n} h k =
+    let own : Difference (pos k) k 0 = record { is = omega arith } in
+    moved (product-of h own) (p * k) (n * k) (omega (arith, mul-zero p, mul-zero n))
 
 -- the size of an integer
 pub size-of : {z : ℤ} {p n : ℕ} → Difference z p n → natAbs z ≡ (p - n) + (n - p)

@@ -1,3 +1,5 @@
+-- From the general to the particular: sizes and their order; rounding as the kit does it (`RoundedSize`, `Rounded`) and the operations as roundings; then that this is what the
+-- standard has delivered (`Values` to `Exact`); products, ranges and zeros; and last the rows of the standard for each operation, which leave one result.
 pub mod Tests
 pub mod Magnitude
 pub mod Order
@@ -7,10 +9,20 @@ pub mod Positive
 pub mod Rounded
 pub mod Integers
 pub mod Operations
-pub mod Products
+pub mod Values
+pub mod LastDigit
+pub mod NearestSize
+pub mod Bound
+pub mod Sides
+pub mod Toward
+pub mod Delivered
 pub mod Exact
+pub mod Decimals
+pub mod Products
 pub mod Absolute
 pub mod Range
 pub mod Overflow
 pub mod LessOne
 pub mod Zero
+pub mod Rows
+pub mod OneResult

@@ -14,6 +14,7 @@ use lib.Ieee.Digits.{back}
 use lib.Ieee.Exact.{HasValue}
 use lib.Ieee.Fits.{and-l, and-r, down-pos}
 use lib.Ieee.Scale.{overflow, finite}
+pub use Rattle.binary32.specs.Whole.{Finite}
 use Rattle.binary32.specs.Whole.{negative, magnitude}
 
 -- ---- what is asked of a number: the format holds it, and it is no NaN, or finite
@@ -21,10 +22,6 @@ use Rattle.binary32.specs.Whole.{negative, magnitude}
 pub record Number (f : Format) (x : Float) : Type 0 where
   pub fits : T (fits f x)
   pub number : T (not (isNan x))
-
-pub record Finite (f : Format) (x : Float) : Type 0 where
-  pub fits : T (fits f x)
-  pub finite : T (finite x)
 
 pub finite-number : {f : Format} {x : Float} → Finite f x → Number f x
 unfolding isNan
@@ -155,10 +152,10 @@ under-finite {x = fin s m e} n h = record { fits = n .fits; finite = tt }
 
 -- ---- a sign and a size belong to one number: the bit pattern is made of these two
 
-bits-of : (f : Format) (s : Bool) (n : ℕ) → ℕ
+unfoldable pub bits-of : (f : Format) (s : Bool) (n : ℕ) → ℕ
 bits-of f s n = cond s (top f) 0 + (size n - prec f) * hid f + n / 2 ^ (size n - prec f)
 
-bits-are : (f : Format) (x : Float) → T (finite x) → toBits f x ≡ bits-of f (negative x) (magnitude f x)
+pub bits-are : (f : Format) (x : Float) → T (finite x) → toBits f x ≡ bits-of f (negative x) (magnitude f x)
 unfolding bits-of toBits negative magnitude
 bits-are f nan t = absurd t
 bits-are f (inf s) t = absurd t

@@ -150,12 +150,12 @@ quotient-same : (a b d e x y l : ℕ) → x * d ≡ a * l → y * e ≡ b * l �
 quotient-same a b d e x y l p q = simp (mul-assoc, mul-comm, mul-left-comm) (simp (mul-assoc, mul-comm, mul-left-comm) at (ap₂ _*_ (sym p) q))
 
 -- the kit's quotient where the divisor is not zero
-div-finite : (f : Format) (s : Bool) (m : ℕ) (e : ℤ) (t : Bool) (n : ℕ) (d : ℤ) → 0 < n → div f (fin s m e) (fin t n d) ≡ round f (unlike s t) (m * up e * down d) (n * up d * down e)
+pub div-finite : (f : Format) (s : Bool) (m : ℕ) (e : ℤ) (t : Bool) (n : ℕ) (d : ℤ) → 0 < n → div f (fin s m e) (fin t n d) ≡ round f (unlike s t) (m * up e * down d) (n * up d * down e)
 unfolding div
 div-finite f s m e t n d h = rw (ne-eqb n 0 (λ z. omega arith))
 
 -- a size is not zero, so the significand is not
-significand : (f : Format) (t : Bool) (n : ℕ) (d : ℤ) → 0 < magnitude f (fin t n d) → 0 < n
+pub significand : (f : Format) (t : Bool) (n : ℕ) (d : ℤ) → 0 < magnitude f (fin t n d) → 0 < n
 significand f t zero d h = absurd (lt-irrefl 0 (subst (λ (k : ℕ). 0 < k) (magnitude-zero f t d) h))
 significand f t (suc n) d h = zero-lt-suc n
 

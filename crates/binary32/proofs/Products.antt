@@ -41,7 +41,7 @@ under-unit f = refl
 
 -- ---- the product by one
 
-mul-negative : {f : Format} {x y : Float} → Finite f x → Finite f y → negative (mul f x y) ≡ unlike (negative x) (negative y)
+pub mul-negative : {f : Format} {x y : Float} → Finite f x → Finite f y → negative (mul f x y) ≡ unlike (negative x) (negative y)
 unfolding mul negative
 mul-negative {f} =
     by-finite₂ (λ x y. negative (mul f x y) ≡ unlike (negative x) (negative y))
@@ -70,13 +70,13 @@ one-times f (fin s m e) h = one-times-finite (record { fits = h; finite = tt })
 
 -- ---- a product is the same both ways round, so the product with one is
 
-unlike-swapped : (s t : Bool) → unlike s t ≡ unlike t s
+pub unlike-swapped : (s t : Bool) → unlike s t ≡ unlike t s
 unlike-swapped true true = refl
 unlike-swapped true false = refl
 unlike-swapped false true = refl
 unlike-swapped false false = refl
 
-mul-swapped : (f : Format) (x y : Float) → mul f x y ≡ mul f y x
+pub mul-swapped : (f : Format) (x y : Float) → mul f x y ≡ mul f y x
 unfolding mul
 mul-swapped f nan nan = refl
 mul-swapped f nan (inf t) = refl

@@ -30,10 +30,10 @@ unfolding isNan odd
 odd-number d s zero k l = tt
 odd-number d s (suc q) k l = tt
 
-record Signed (f : Format) (x : Float) (s : Bool) (n : ℕ) : Type 0 where
-  number : T (not (isNan x))
-  sign : negative x ≡ s
-  size : magnitude f x ≡ n
+pub record Signed (f : Format) (x : Float) (s : Bool) (n : ℕ) : Type 0 where
+  pub number : T (not (isNan x))
+  pub sign : negative x ≡ s
+  pub size : magnitude f x ≡ n
 
 units-signed : (f : Format) (s : Bool) (q k : ℕ) → Signed f (units f s q k) s (cond (ltb (q * 2 ^ k) (overflow f)) (q * 2 ^ k) (overflow f))
 unfolding units
@@ -47,7 +47,7 @@ units-signed f s q k = go (ltb (q * 2 ^ k) (overflow f))
     }
     go false = unfold isNan negative magnitude in record { number = tt; sign = refl; size = refl }
 
-round-signed : (f : Format) (s : Bool) (a c : ℕ) → Signed f (round f s a c) s (cond (ltb (grid f a c) (overflow f)) (grid f a c) (overflow f))
+pub round-signed : (f : Format) (s : Bool) (a c : ℕ) → Signed f (round f s a c) s (cond (ltb (grid f a c) (overflow f)) (grid f a c) (overflow f))
 round-signed f s a c =
     subst (λ (z : Float). Signed f z s (cond (ltb (grid f a c) (overflow f)) (grid f a c) (overflow f))) (sym (round-is f s a c))
     (units-signed f s (kept (prec f) (a * 2 ^ low f) c) (drop (prec f) (a * 2 ^ low f) c))

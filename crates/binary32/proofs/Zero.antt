@@ -38,7 +38,7 @@ one-unit binary32 = refl
 one-unit binary64 = refl
 
 -- so what is at least one rounds to at least one, and nothing to nothing
-rounded-some : (f : Format) (a : ℕ) → 0 < a → 0 < roundedTo f a 1
+pub rounded-some : (f : Format) (a : ℕ) → 0 < a → 0 < roundedTo f a 1
 rounded-some f a h = omega (arith, one-unit f, rounded-mono f 1 1 a 1 (pow-pos 0) (pow-pos 0) (omega arith))
 
 rounded-none : (f : Format) (a : ℕ) → a ≡ 0 → roundedTo f a 1 ≡ 0

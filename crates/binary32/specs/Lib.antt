@@ -1,4 +1,6 @@
 pub mod Arithmetic
 pub mod Whole
 pub mod Rounding
+pub mod Nearest
+pub mod Operations
 pub mod Range

@@ -1,4 +1,5 @@
--- A fraction of whole numbers rounded to a format, to nearest, ties to even (IEEE 754-2019, 4.3.1), by the kit's `round`. Definitions only.
+-- A fraction of whole numbers rounded to a format, to nearest, ties to even (IEEE 754-2019, 4.3.1), by the kit's `round`: a way to find what `Nearest.antt` says in the
+-- standard's words (`rounding-delivered` in proofs/Delivered). Definitions only.
 use Prim.Native.Nat.{ℕ, suc, _*_, _^_}
 use mathlib.Core.Bool.{true, false}
 use lib.IntN.{ℤ, pos, negsuc}

@@ -1,10 +1,26 @@
 -- A number of a format as a whole number of the format's smallest value: 2 ^ -149 at binary32, where every finite number is such a multiple
 -- (document 01, its first paragraph; IEEE 754-2019, 3.3). Definitions only.
-use Prim.Native.Nat.{ℕ, _*_, _/_, _^_}
+use mathlib.Core.Path.{_≡_}
+use Prim.Native.Nat.{ℕ, _-_, _*_, _/_, _^_, _≤_, _<_}
 use mathlib.Core.Bool.{Bool, false, cond}
+use lib.Dec.{T}
 use lib.IntN.{ℤ, subℕ}
-use lib.Ieee.{Float, nan, inf, fin, Format, up, down, low}
-use lib.Ieee.Scale.{overflow}
+use lib.Ieee.{Float, nan, inf, fin, Format, prec, emax, up, down, low, fits}
+use lib.Ieee.Scale.{overflow, finite}
+
+-- x is a number of the format: the format holds it, and it is finite, so neither an infinity nor a NaN
+pub record Finite (f : Format) (x : Float) : Type 0 where
+  pub fits : T (fits f x)
+  pub finite : T (finite x)
+
+-- The sizes of these numbers, in units of the smallest value, as 3.3 has them: a whole number of at most prec binary digits, times a power of two from 2 ^ 0 to
+-- 2 ^ (emax - emin). emin is 1 - emax.
+pub record Representable (f : Format) (n : ℕ) : Type 0 where
+  pub digits : ℕ
+  pub shift : ℕ
+  pub few : digits < 2 ^ prec f
+  pub reach : shift ≤ 2 * emax f - 1
+  pub is : n ≡ digits * 2 ^ shift
 
 -- whether the sign is a minus: -0 has one, a NaN has none
 unfoldable pub negative : Float → Bool

@@ -19,7 +19,7 @@ use Rattle.binary32.specs.Range.{exactSum, SumWithin}
 use Rattle.binary32.proofs.Magnitude.{Finite, finite-number}
 use Rattle.binary32.proofs.Integers.{own-pair, rounding-rounded}
 use Rattle.binary32.proofs.Operations.{add-rounded}
-use Rattle.binary32.proofs.Exact.{eq-exact, rounding-own, add-exact}
+use Rattle.binary32.proofs.Exact.{eq-exact, rounding-own, delivered-rounding, add-delivered}
 use Rattle.number.specs.Treat.{treated, clamped, limited}
 use Rattle.rules.specs.Rows.{Row, quadRows}
 use Rattle.rules.specs.Command.{roll, pitch, yaw, lifted, collective, delta, deltas}
@@ -172,7 +172,7 @@ no-number : (s : Sum) → Finite binary32 (s .first) → Finite binary32 (s .sec
 unfolding NoNumber exactSum
 no-number s hx hy differs z hz e =
     let n = rounding-rounded binary32 1 (own-pair (exactSum (s .first) (s .second))) (pow-pos 0) .number in
-    let sum = eq-exact (add-rounded hx hy .number) n (add-exact hx hy) in
+    let sum = eq-exact (add-rounded hx hy .number) n (delivered-rounding (pow-pos 0) (add-delivered hx hy)) in
     let own = eq-exact (finite-number hz) n (rw e at (rounding-own hz)) in
     differs (sum ∙ sym own ∙ e)
 

@@ -15,6 +15,7 @@ use Rattle.binary32.proofs.Comparison.{units-le}
 use Rattle.binary32.proofs.Rounded.{Rounded, rounded-order, own-rounding}
 use Rattle.binary32.proofs.Integers.{whole-difference, sum-of, is-rounding}
 use Rattle.binary32.proofs.Operations.{add-rounded}
+use Rattle.binary32.proofs.Delivered.{rounds-to, delivered-nearest}
 use Rattle.binary32.proofs.Products.{one-is-unit, one-times, times-one}
 use Rattle.binary32.proofs.Range.{one-finite, one-number, sum-at-least, sum-at-most}
 use Rattle.number.specs.Treat.{floorClamp}
@@ -54,9 +55,11 @@ fitted {lo} {x} {y} {z} l w r =
     let below : over binary32 z + under binary32 1f ≤ over binary32 1f + under binary32 z =
     rounded-order r (own-rounding one-finite) (pow-pos 0) (pow-pos 0) (omega (arith, sum-at-most w)) in
     let within = inside (l .finite) (n .fits) (record { from = units-le (inside-number l) n above; to = units-le n one-number below }) in
+    let exact = sum-of (whole-difference binary32 x) (whole-difference binary32 y) in
+    let standard = delivered-nearest (within .finite .finite) (rounds-to r exact (pow-pos 0)) in
     record {
       inside = within;
-      rounded = is-rounding r (sum-of (whole-difference binary32 x) (whole-difference binary32 y)) (pow-pos 0);
+      rounded = record { once = is-rounding r exact (pow-pos 0); nearest = standard .0; even = standard .1 };
       kept = clamp-stays l within;
     }
 

@@ -17,7 +17,7 @@ use Rattle.rules.specs.Promises.{PlainKeeps, ThrustFloorKeeps, PriorityK
 use Rattle.rules.proofs.Bounded.{thrust-floor-clamped, thrust-floor-scaled, priority-clamped, airmode-clamped, without-keeps, tilt-keeps}
 use Rattle.rules.proofs.Ordered.{thrust-floor-ordered}
 use Rattle.rules.proofs.ThrustFloorFitting.{thrust-floor-fitting}
-use Rattle.rules.proofs.PriorityFitting.{priority-fitting}
+use Rattle.rules.proofs.PriorityFitting.{priority-fitting, priority-nearest}
 use Rattle.rules.proofs.AirmodeFitting.{airmode-fitting}
 use Rattle.rules.proofs.Plain.{plain-no-nan, plain-overflowed, plain-attained, plain-to-one, plain-unit, frame-unit}
 use Rattle.rules.proofs.QuadX.{quad-x-agrees}
@@ -64,7 +64,12 @@ module _ (rows : List Row) (torque : List Float) (thrust floor : Float) (ft : T 
   pub priority-keeps : PriorityKeeps rows torque thrust floor (priorityMotors rows torque thrust floor)
   priority-keeps =
       let clamped = priority-clamped rows torque thrust floor ff in
-      record { bounded = clamped .bounded; unit = clamped .unit; fitting = priority-fitting rows torque thrust floor ff }
+      record {
+        bounded = clamped .bounded;
+        unit = clamped .unit;
+        fitting = priority-fitting rows torque thrust floor ff;
+        nearest = priority-nearest rows torque thrust floor ff;
+      }
 
   pub airmode-keeps : AirmodeKeeps rows torque thrust floor (airmodeMotors rows torque thrust floor)
   airmode-keeps =

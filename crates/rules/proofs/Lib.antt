@@ -4,6 +4,7 @@
 pub mod Lists
 pub mod Runs
 pub mod Rows
+pub mod Decimals
 pub mod Sums
 pub mod Four
 pub mod Held

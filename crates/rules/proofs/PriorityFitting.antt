@@ -10,10 +10,10 @@ use Rattle.number.specs.Treat.{limited}
 use Rattle.rules.specs.Rows.{Row}
 use Rattle.rules.specs.Command.{roll, pitch, yaw, collective}
 use Rattle.rules.specs.Priority.{yawGroup, rollPitchGroup, yawScale, rollPitchScale, priorityMotor, priorityMotors}
-use Rattle.rules.specs.Promises.{Each, FitsBothOrders}
-use Rattle.rules.proofs.Lists.{each-same}
+use Rattle.rules.specs.Promises.{Each, SumRounded, FitsBothOrders, rollPitchSum, prioritySum, FitsEitherWay}
+use Rattle.rules.proofs.Lists.{each-still, each-same}
 use Rattle.rules.proofs.Clamp.{Floor, limited-floor, treated-finite}
-use Rattle.rules.proofs.FittingSum.{scale-one-first, fitting-sum, fitting-scale}
+use Rattle.rules.proofs.FittingSum.{Fitted, scale-one-first, fitting-sum, fitting-scale}
 
 -- ---- the two scales, and one motor
 
@@ -56,19 +56,24 @@ module _ (torque : List Float) (thrust floor : Float) (hf : T (fits binary32 flo
       (fitting-scale lo-floor Fitting (λ row. base +f 1f *f y row) rp (λ row. add-fits binary32 base (1f *f y row)) roll-pitch-fits
       (λ row v. rw (scale-one-first (y row) (yaw-fits row)) (v .rollPitchLast)) rows w)
 
+  yaw-last : (row : Row) → Fitting row → Fitted lo (base +f rp row) (y row) (base +f rp row +f y row)
+  yaw-last row v = fitting-sum lo-floor (add-fits binary32 base (rp row)) (yaw-fits row) (v .yawLast)
+
   fitting-motor : (row : Row) → Fitting row → priorityMotor lo base 1f 1f (rp row) (y row) ≡ base +f rp row +f y row
   unfolding priorityMotor
   fitting-motor row v =
       rw (scale-one-first (rp row) (roll-pitch-fits row), scale-one-first (y row) (yaw-fits row))
-      (fitting-sum lo-floor (add-fits binary32 base (rp row)) (yaw-fits row) (v .yawLast) .kept)
+      (yaw-last row v .kept)
 
 -- ---- the mix; nothing is asked of the thrust
 
-pub priority-fitting : (rows : List Row) (torque : List Float) (thrust floor : Float) → T (fits binary32 floor)
-    → Each (λ row. FitsBothOrders floor (collective thrust floor) (rollPitchGroup (roll torque) (pitch torque) row) (yawGroup (yaw torque) row)) rows
-    → priorityMotors rows torque thrust floor
-    ≡ map (λ row. collective thrust floor +f rollPitchGroup (roll torque) (pitch torque) row +f yawGroup (yaw torque) row) rows
+pub priority-fitting : (rows : List Row) (torque : List Float) (thrust floor : Float) → T (fits binary32 floor) → FitsEitherWay rows torque thrust floor
+    → priorityMotors rows torque thrust floor ≡ map (prioritySum torque thrust floor) rows
 unfolding priorityMotors
 priority-fitting rows torque thrust floor hf w =
     rw (yaw-scale torque thrust floor hf rows w, roll-pitch-scale torque thrust floor hf rows w)
     (each-same _ _ _ (fitting-motor torque thrust floor hf) rows w)
+
+pub priority-nearest : (rows : List Row) (torque : List Float) (thrust floor : Float) → T (fits binary32 floor) → FitsEitherWay rows torque thrust floor
+    → Each (λ row. SumRounded (rollPitchSum torque thrust floor row) (yawGroup (yaw torque) row) (prioritySum torque thrust floor row)) rows
+priority-nearest rows torque thrust floor hf w = each-still _ _ (λ row v. yaw-last torque thrust floor hf row v .rounded) rows w

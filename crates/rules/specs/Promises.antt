@@ -9,6 +9,7 @@ use lib.ListN.{getD, take}
 use lib.Ieee.{Float, nan, inf, binary32, lt, le, eq, isNan, ofBits}
 use Rattle.binary32.specs.Arithmetic.{_+f_, 0f, 1f}
 use Rattle.binary32.specs.Rounding.{rounding}
+use Rattle.binary32.specs.Nearest.{Nearest, TiesToEven}
 use Rattle.binary32.specs.Range.{Between, exactSum, SumWithin}
 use Rattle.number.specs.Treat.{limited}
 use Rattle.fit.specs.Fit.{EachMotor}
@@ -38,8 +39,11 @@ abbrev pub NotInfinity : Float → Type 0
 NotInfinity x = x ≡ inf false → ⊥
 
 -- m is the exact sum of x and y "rounded once, zero's sign aside"
-abbrev pub SumRounded : Float → Float → Float → Type 0
-SumRounded x y m = eq m (rounding binary32 (exactSum x y) 1) ≡ true
+pub record SumRounded (x y m : Float) : Type 0 where
+  pub once : eq m (rounding binary32 (exactSum x y) 1) ≡ true
+  -- in the standard's words: no f32 is nearer to the exact sum, and where another is as near, m is the one whose bit pattern is even
+  pub nearest : Nearest binary32 (exactSum x y) 1 m
+  pub even : TiesToEven binary32 (exactSum x y) 1 m
 
 -- the command fits: "the mix's collective plus each delta, taken exactly, lies in that range"
 abbrev pub Fits : Float → Float → List Float → Type 0
@@ -64,14 +68,26 @@ pub record FitsBothOrders (floor base : Float) (rollPitch yaw : Float) : Type 0 
   pub yawLast : SumWithin (limited floor) 1f (base +f rollPitch) yaw
   pub rollPitchLast : SumWithin (limited floor) 1f (base +f yaw) rollPitch
 
+-- a rotor's two sums: the collective plus roll/pitch, rounded, and this plus yaw, rounded
+abbrev pub rollPitchSum : List Float → Float → Float → Row → Float
+rollPitchSum torque thrust floor row = collective thrust floor +f rollPitchGroup (roll torque) (pitch torque) row
+
+abbrev pub prioritySum : List Float → Float → Float → Row → Float
+prioritySum torque thrust floor row = rollPitchSum torque thrust floor row +f yawGroup (yaw torque) row
+
+-- the command fits: "for both orders and every motor"
+abbrev pub FitsEitherWay : List Row → List Float → Float → Float → Type 0
+FitsEitherWay rows torque thrust floor =
+    Each (λ row. FitsBothOrders floor (collective thrust floor) (rollPitchGroup (roll torque) (pitch torque) row) (yawGroup (yaw torque) row)) rows
+
 pub record PriorityKeeps (rows : List Row) (torque : List Float) (thrust floor : Float) (motors : List Float) : Type 0 where
   pub bounded : Bounded floor motors
   pub unit : InUnit motors
   -- "each motor is collective plus roll/pitch plus yaw, rounded at each sum"
-  pub fitting : Each
-      (λ row. FitsBothOrders floor (collective thrust floor) (rollPitchGroup (roll torque) (pitch torque) row) (yawGroup (yaw torque) row))
-      rows
-      → motors ≡ map (λ row. collective thrust floor +f rollPitchGroup (roll torque) (pitch torque) row +f yawGroup (yaw torque) row) rows
+  pub fitting : FitsEitherWay rows torque thrust floor → motors ≡ map (prioritySum torque thrust floor) rows
+  -- so each is a nearest f32 to (collective plus roll/pitch, rounded) plus yaw, exactly
+  pub nearest : FitsEitherWay rows torque thrust floor
+      → Each (λ row. SumRounded (rollPitchSum torque thrust floor row) (yawGroup (yaw torque) row) (prioritySum torque thrust floor row)) rows
 
 pub record AirmodeKeeps (rows : List Row) (torque : List Float) (thrust idle : Float) (motors : List Float) : Type 0 where
   pub bounded : Bounded idle motors

@@ -51,19 +51,19 @@ abbrev pub -1f : Float
 abbrev pub 1/2 : Float
 1/2 = ofBits binary32 0x3f00_0000
 
-abbrev -1/2 : Float
+abbrev pub -1/2 : Float
 -1/2 = ofBits binary32 0xbf00_0000
 
-abbrev 866/1000 : Float
+abbrev pub 866/1000 : Float
 866/1000 = ofBits binary32 0x3f5d_b22d
 
-abbrev -866/1000 : Float
+abbrev pub -866/1000 : Float
 -866/1000 = ofBits binary32 0xbf5d_b22d
 
-abbrev 707/1000 : Float
+abbrev pub 707/1000 : Float
 707/1000 = ofBits binary32 0x3f34_fdf4
 
-abbrev -707/1000 : Float
+abbrev pub -707/1000 : Float
 -707/1000 = ofBits binary32 0xbf34_fdf4
 
 -- ---- the frames

@@ -1,0 +1,159 @@
+-- The size that is nearest to a / c units, whatever its exponent: the kit's rounding keeps prec digits, w or the next number up, of a / c = w * 2 ^ k and a rest. No
+-- size of so few digits lies between w * 2 ^ k and (w + 1) * 2 ^ k, so none is nearer than the nearer of these two; and where both are equally
+-- near, the one that is taken ends with an even digit and the other with an odd one. In either format. Assumes nothing.
+use mathlib.Core.Path.{_≡_, refl, sym, ap, _∙_, subst}
+use mathlib.Core.Logic.{_⊎_, inl, inr, ⊎-elim}
+use Prim.Native.Nat.{ℕ, zero, suc, _+_, _-_, _*_, _/_, _%_, _^_, _≤_, _<_, compare, Ordering, Ordering·lt, Ordering·eq, Ordering·gt}
+use native.Mathlib.Nat.{add-zero, add-mul, mul-assoc, mul-comm, one-mul, suc-mul, lt-of-lt-of-le, mul-pos, mul-le-mul-right, eq-of-mul-eq-mul-right, eq-or-lt-of-le, le-trans, le-of-eq, le-div-iff-mul-le, div-div-eq-div-mul, div-add-mod', mod-lt}
+use native.Mathlib.Decide.{decLe}
+use native.Mathlib.Omega.{arith}
+use borrow.Author.Tests.{leb-true, leb-false, eqb-true, eqb-false}
+use lib.Dec.{isLe, isEq}
+use lib.Pow.{pow-add, pow-pos, pow-mono, pow-lt}
+use lib.Ieee.{Format, prec, nearest}
+use lib.Ieee.Digits.{size-reaches}
+use lib.Ieee.Fits.{two, kept-lt}
+use lib.Ieee.Order.{drop, kept}
+use Rattle.binary32.proofs.Magnitude.{pow-split}
+use Rattle.binary32.proofs.RoundedSize.{Short}
+use Rattle.binary32.proofs.LastDigit.{lastDigit, digit-of}
+
+-- how far a and b lie apart
+abbrev pub gap : ℕ → ℕ → ℕ
+gap a b = (a - b) + (b - a)
+
+pub record NearestSize (f : Format) (a c n : ℕ) : Type 0 where
+  pub short : Short f n
+  pub nearest : (m : ℕ) → Short f m → gap a (n * c) ≤ gap a (m * c)
+  -- of two that are equally near, n is the one that is even
+  pub tie : (m : ℕ) → Short f m → gap a (m * c) ≡ gap a (n * c) → (m ≡ n → ⊥) → (lastDigit f n ≡ 0) × (lastDigit f m ≡ 1)
+
+-- ---- no size lies between two neighbours
+
+module _ (f : Format) (w k : ℕ) (full : 0 < k → 2 ^ (prec f - 1) ≤ w) where
+  neighbours : {m : ℕ} → Short f m → (m ≤ w * 2 ^ k) ⊎ (suc w * 2 ^ k ≤ m)
+  neighbours {m} s = go (decLe k (s .shift))
+    where
+      go : Dec (k ≤ s .shift) → (m ≤ w * 2 ^ k) ⊎ (suc w * 2 ^ k ≤ m)
+      -- m is a multiple of 2 ^ k
+      go (yes h) =
+          let e = s .digits * 2 ^ (s .shift - k) in
+          let is : m ≡ e * 2 ^ k = s .exact ∙ ap (λ (n : ℕ). s .digits * n) (pow-split (s .shift) k h) ∙ sym (mul-assoc (s .digits) (2 ^ (s .shift - k)) (2 ^ k)) in
+          pick e is (decLe e w)
+        where
+          pick : (e : ℕ) → m ≡ e * 2 ^ k → Dec (e ≤ w) → (m ≤ w * 2 ^ k) ⊎ (suc w * 2 ^ k ≤ m)
+          pick e is (yes l) = inl (le-trans (le-of-eq is) (mul-le-mul-right (2 ^ k) l))
+          pick e is (no l) = inr (le-trans (mul-le-mul-right (2 ^ k) (omega arith)) (le-of-eq (sym is)))
+      -- or it has too few digits to reach w * 2 ^ k
+      go (no h) =
+          let j = s .shift in
+          let short : s .digits * 2 ^ j ≤ 2 ^ prec f * 2 ^ j = mul-le-mul-right (2 ^ j) (omega (arith, s .few)) in
+          let step : 2 ^ (prec f + j) ≤ 2 ^ (prec f - 1 + k) = pow-mono (omega (arith, two f)) in
+          let reach : 2 ^ (prec f - 1) * 2 ^ k ≤ w * 2 ^ k = mul-le-mul-right (2 ^ k) (full (omega arith)) in
+          inl (omega (arith, s .exact, pow-add 2 (prec f) j, pow-add 2 (prec f - 1) k))
+
+-- ---- which of the two is taken
+
+abbrev Compared : Ordering → ℕ → ℕ → Type 0
+Compared Ordering·lt a b = a < b
+Compared Ordering·eq a b = a ≡ b
+Compared Ordering·gt a b = b < a
+
+compared : (a b : ℕ) → Compared (compare a b) a b
+compared a b = go (compare a b) refl
+  where
+    go : (o : Ordering) → compare a b ≡ o → Compared o a b
+    go Ordering·lt e = let most : a ≤ b = leb-true a b (ap isLe e) in omega (arith, eqb-false a b (ap isEq e))
+    go Ordering·eq e = eqb-true a b (ap isEq e)
+    go Ordering·gt e = leb-false a b (ap isLe e)
+
+-- a is L = w * 2 ^ k * c and a rest r, which is less than the step u of 2 ^ k: the two candidates are L and L + u
+module _ (f : Format) (a c w k r : ℕ) (C : 0 < c) (full : 0 < k → 2 ^ (prec f - 1) ≤ w) (few : w < 2 ^ prec f)
+    (parts : a ≡ w * 2 ^ k * c + r) (rest : r < 2 ^ k * c) where
+  step : suc w * 2 ^ k * c ≡ w * 2 ^ k * c + 2 ^ k * c
+  step = ap (λ (n : ℕ). n * c) (suc-mul w (2 ^ k)) ∙ add-mul (w * 2 ^ k) (2 ^ k) c
+
+  short-of : (q : ℕ) → q ≤ 2 ^ prec f → Short f (q * 2 ^ k)
+  short-of q h = elim (eq-or-lt-of-le h) [
+    | inl e ↦ record {
+      digits = 1;
+      shift = prec f + k;
+      few = pow-lt {i = 0} (omega (arith, two f));
+      exact = ap (λ (n : ℕ). n * 2 ^ k) e ∙ sym (pow-add 2 (prec f) k) ∙ sym (one-mul (2 ^ (prec f + k)));
+    }
+    | inr l ↦ record { digits = q; shift = k; few = l; exact = refl }
+  ]
+
+  digit-lower : lastDigit f (w * 2 ^ k) ≡ w % 2
+  digit-lower = digit-of f w k (omega arith) full
+
+  digit-upper : lastDigit f (suc w * 2 ^ k) ≡ suc w % 2
+  digit-upper = digit-of f (suc w) k (omega arith) (λ h. omega (arith, full h))
+
+  -- every other size lies on one side or the other
+  others : (m : ℕ) → Short f m → (m * c ≤ w * 2 ^ k * c) ⊎ (suc w * 2 ^ k * c ≤ m * c)
+  others m s = ⊎-elim (λ h. inl (mul-le-mul-right c h)) (λ h. inr (mul-le-mul-right c h)) (neighbours f w k full s)
+
+  same : (m n : ℕ) → m * c ≡ n * c → m ≡ n
+  same m n e = eq-of-mul-eq-mul-right c C m n e
+
+  lower : r * 2 ≤ 2 ^ k * c → (r * 2 ≡ 2 ^ k * c → w % 2 ≡ 0) → NearestSize f a c (w * 2 ^ k)
+  lower h even = record {
+    short = short-of w (omega arith);
+    nearest = λ m s. ⊎-elim (λ l. omega (arith, step)) (λ l. omega (arith, step)) (others m s);
+    tie = λ m s e ne.
+        ⊎-elim
+        (λ (l : m * c ≤ w * 2 ^ k * c). absurd (ne (same m (w * 2 ^ k) (omega arith))))
+        (λ (l : suc w * 2 ^ k * c ≤ m * c).
+        let half : r * 2 ≡ 2 ^ k * c = omega (arith, step) in
+        let is : m ≡ suc w * 2 ^ k = same m (suc w * 2 ^ k) (omega (arith, step)) in
+        (digit-lower ∙ even half, ap (lastDigit f) is ∙ digit-upper ∙ omega (arith, even half)))
+        (others m s);
+  }
+
+  upper : 2 ^ k * c ≤ r * 2 → (r * 2 ≡ 2 ^ k * c → w % 2 ≡ 1) → NearestSize f a c (suc w * 2 ^ k)
+  upper h odd = record {
+    short = short-of (suc w) (omega arith);
+    nearest = λ m s. ⊎-elim (λ l. omega (arith, step)) (λ l. omega (arith, step)) (others m s);
+    tie = λ m s e ne.
+        ⊎-elim
+        (λ (l : m * c ≤ w * 2 ^ k * c).
+        let half : r * 2 ≡ 2 ^ k * c = omega (arith, step) in
+        let is : m ≡ w * 2 ^ k = same m (w * 2 ^ k) (omega (arith, step)) in
+        (digit-upper ∙ omega (arith, odd half), ap (lastDigit f) is ∙ digit-lower ∙ odd half))
+        (λ (l : suc w * 2 ^ k * c ≤ m * c). absurd (ne (same m (suc w * 2 ^ k) (omega (arith, step)))))
+        (others m s);
+  }
+
+  nearest-taken : (o : Ordering) → Compared o (r * 2) (2 ^ k * c) → NearestSize f a c (nearest w o * 2 ^ k)
+  nearest-taken Ordering·lt h = lower (omega arith) (λ e. omega arith)
+  nearest-taken Ordering·gt h = upper (omega arith) (λ e. omega arith)
+  nearest-taken Ordering·eq h = go (w % 2) refl
+    where
+      go : (d : ℕ) → w % 2 ≡ d → NearestSize f a c ((w + d) * 2 ^ k)
+      go zero e = rw (add-zero w) (lower (omega arith) (λ t. e))
+      go (suc d) e =
+          let one : w + suc d ≡ suc w = omega arith in
+          subst (λ (n : ℕ). NearestSize f a c (n * 2 ^ k)) (sym one) (upper (omega arith) (λ t. omega arith))
+
+-- ---- so the kit's rounding, before it asks for overflow, gives the nearest size
+
+unfoldable pub unbounded : Format → ℕ → ℕ → ℕ
+unbounded f a c = kept (prec f) a c * 2 ^ drop (prec f) a c
+
+pub unbounded-nearest : (f : Format) (a c : ℕ) → 0 < c → NearestSize f a c (unbounded f a c)
+unfolding unbounded
+unbounded-nearest f a c C =
+    let p = prec f in
+    let k = drop p a c in
+    let u = c * 2 ^ k in
+    let U : 0 < u = mul-pos C (pow-pos k) in
+    let w = a / u in
+    let swap : u ≡ 2 ^ k * c = mul-comm c (2 ^ k) in
+    let few : w < 2 ^ p = subst (λ (n : ℕ). n < 2 ^ p) (div-div-eq-div-mul a c (2 ^ k)) (kept-lt p (a / c)) in
+    let full : 0 < k → 2 ^ (p - 1) ≤ w = λ h.
+    subst (λ (n : ℕ). 2 ^ (p - 1) ≤ n) (div-div-eq-div-mul a c (2 ^ k))
+    (le-div-iff-mul-le (pow-pos k) .1 (le-trans (le-of-eq (sym (pow-add 2 (p - 1) k))) (size-reaches (a / c) (p - 1 + k) (omega (arith, two f))))) in
+    let parts : a ≡ w * 2 ^ k * c + a % u = sym (div-add-mod' a u) ∙ ap (λ (n : ℕ). n + a % u) (ap (λ (n : ℕ). w * n) swap ∙ sym (mul-assoc w (2 ^ k) c)) in
+    nearest-taken f a c w k (a % u) C full few parts (lt-of-lt-of-le (mod-lt a U) (le-of-eq swap)) (compare (a % u * 2) u)
+    (subst (λ (n : ℕ). Compared (compare (a % u * 2) u) (a % u * 2) n) swap (compared (a % u * 2) u))
