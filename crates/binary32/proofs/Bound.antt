@@ -14,13 +14,10 @@ use lib.Ieee.Order.{drop, kept}
 use lib.Ieee.Scale.{overflow}
 use Rattle.binary32.specs.Whole.{magnitude}
 use Rattle.binary32.specs.Nearest.{bound}
-use Rattle.binary32.proofs.RoundedSize.{roundedTo, Short, round-signed, rounded-mono}
+use Rattle.binary32.proofs.RoundedSize.{limit, roundedTo, Short, round-signed, rounded-mono}
 use Rattle.binary32.proofs.NearestSize.{gap, unbounded, unbounded-nearest}
 
 -- ---- what a / c rounds to is its nearest size, cut off at the overflow bound
-
-limit : Format → ℕ → ℕ
-limit f n = cond (ltb n (overflow f)) n (overflow f)
 
 same-kept : (f : Format) (a c l : ℕ) → 0 < c → 0 < l → kept (prec f) (a * l) (c * l) * 2 ^ drop (prec f) (a * l) (c * l) ≡ kept (prec f) a c * 2 ^ drop (prec f) a c
 same-kept f a c l C L =
@@ -32,7 +29,7 @@ same-kept f a c l C L =
     (closest-same (a * l) (c * l * 2 ^ j) a (c * 2 ^ j) (mul-pos (mul-pos C L) (pow-pos j)) (mul-pos C (pow-pos j)) (simp (mul-assoc, mul-left-comm)))
 
 rounded-limit : (f : Format) (a c : ℕ) → 0 < c → roundedTo f a c ≡ limit f (unbounded f a c)
-unfolding roundedTo unbounded limit
+unfolding roundedTo unbounded
 rounded-limit f a c C = round-signed f false a (c * 2 ^ low f) .size ∙ ap (limit f) (same-kept f a c (2 ^ low f) C (pow-pos (low f)))
 
 under-limit : (f : Format) (n : ℕ) → n < overflow f → limit f n ≡ n

@@ -3,18 +3,18 @@
 use mathlib.Core.Path.{_≡_, refl, sym, ap, _∙_, subst, subst₂}
 use mathlib.Core.Bool.{true}
 use Prim.Native.Nat.{ℕ, _*_, _%_, _≤_, _<_}
-use native.Mathlib.Nat.{le-antisymm, le-of-eq, lt-of-le-of-lt, lt-irrefl}
+use native.Mathlib.Nat.{le-antisymm, le-of-eq, lt-of-le-of-lt}
 use native.Mathlib.Decide.{decLe, ℕ-discrete}
 use native.Mathlib.Omega.{arith}
 use lib.Dec.{T}
 use lib.Pow.{pow-pos}
 use lib.IntN.{ℤ, natAbs}
-use lib.Ieee.{Float, nan, inf, fin, Format, toBits, eq, isNan}
+use lib.Ieee.{Float, inf, Format, fits, toBits, eq, isNan}
 use lib.Ieee.Scale.{overflow, finite}
 use Rattle.binary32.specs.Whole.{Finite, negative, magnitude}
 use Rattle.binary32.specs.Rounding.{rounding}
 use Rattle.binary32.specs.Nearest.{distance, bound, Nearest, TiesToEven, RoundsTo}
-use Rattle.binary32.proofs.Magnitude.{Number, finite-number, finite-under, under-finite}
+use Rattle.binary32.proofs.Magnitude.{Number, finite-number, under-finite, same-number}
 use Rattle.binary32.proofs.Rounded.{Rounded, one-number}
 use Rattle.binary32.proofs.Integers.{Difference, own-pair, rounding-rounded}
 use Rattle.binary32.proofs.LastDigit.{lastDigit, pattern-digit}
@@ -34,11 +34,8 @@ by-bound {A} f w c beyond within = go (decLe (bound f * c) (natAbs w))
 -- ---- what is rounded is delivered
 
 infinite-of : {f : Format} {z : Float} → Number f z → magnitude f z ≡ overflow f → z ≡ inf (negative z)
-unfolding isNan negative
-infinite-of {z = nan} n e = absurd (n .number)
-infinite-of {z = inf t} n e = refl
-infinite-of {f} {z = fin t m d} n e =
-    absurd (lt-irrefl (overflow f) (lt-of-le-of-lt (le-of-eq (sym e)) (finite-under (record { fits = n .fits; finite = tt }))))
+unfolding fits isNan negative magnitude
+infinite-of n e = same-number n (record { fits = tt; number = tt }) refl e
 
 module _ {f : Format} {z : Float} {w : ℤ} {c : ℕ} (C : 0 < c) (t : Toward f z w c) where
   infinite : bound f * c ≤ natAbs w → z ≡ inf (side w)
@@ -102,21 +99,20 @@ module _ {f : Format} {z k : Float} {w : ℤ} {c : ℕ} (C : 0 < c) (t : Toward 
         go (no n) u = absurd (not-two (λ o v. n o))
         go (yes o) (no n) = absurd (not-two (λ i u. n u))
 
-  delivered-toward : Toward f z w c
-  delivered-toward = by-bound f w c (λ h. subst (λ (x : Float). Toward f x w c) (infinite C t h ∙ sym (r .beyond h)) t) nearest-toward
+  only : Toward f z w c
+  only = by-bound f w c (λ h. subst (λ (x : Float). Toward f x w c) (infinite C t h ∙ sym (r .beyond h)) t) nearest-toward
+
+pub delivered-toward : {f : Format} {z : Float} {w : ℤ} {c : ℕ} → RoundsTo f w c z → 0 < c → Toward f z w c
+delivered-toward {f} {w} {c} r C = only C (toward C (own-pair w) (rounding-rounded f c (own-pair w) C)) r
 
 pub delivered-rounded : {f : Format} {z : Float} {w : ℤ} {p n c : ℕ} → RoundsTo f w c z → Difference w p n → 0 < c → Rounded f z p n c
-delivered-rounded {f} {w} {c} r d C = rounded-toward C d (delivered-toward C (toward C (own-pair w) (rounding-rounded f c (own-pair w) C)) r)
+delivered-rounded r d C = rounded-toward C d (delivered-toward r C)
 
 -- ---- so the words determine a number, a zero's sign aside
 
 pub determined : {f : Format} {z y : Float} {w : ℤ} {c : ℕ} → 0 < c → RoundsTo f w c z → RoundsTo f w c y → eq z y ≡ true
 determined {w} C rz ry = one-number (delivered-rounded rz (own-pair w) C) (delivered-rounded ry (own-pair w) C)
 
--- it is never a NaN
-pub delivered-number : {f : Format} {z : Float} {w : ℤ} {c : ℕ} → 0 < c → RoundsTo f w c z → Number f z
-delivered-number {w} C r = delivered-rounded r (own-pair w) C .number
-
--- and where it is finite, it is a nearest number, and the even one of two
+-- where it is finite, it is a nearest number, and the even one of two
 pub delivered-nearest : {f : Format} {z : Float} {w : ℤ} {c : ℕ} → T (finite z) → RoundsTo f w c z → Nearest f w c z × TiesToEven f w c z
 delivered-nearest {f} {w} {c} t r = by-bound f w c (λ h. absurd (subst (λ (x : Float). T (finite x)) (r .beyond h) t)) (λ h. r .within h)

@@ -80,3 +80,7 @@ digit-of f q k most full = elim (eq-or-lt-of-le most) [
       ap (lastDigit f) halved ∙ digits-less f (2 ^ (prec f - 1)) (1 + k) (pow-lt (omega (arith, two f))) (λ h. omega arith) ∙ hid-even f ∙ omega arith
   | inr l ↦ digits-less f q k l full
 ]
+
+-- so the bit pattern is even where the last digit is: that of a size written with all the digits of the format, or with no shift
+pub pattern-of-digits : {f : Format} {x : Float} (q k : ℕ) → Finite f x → magnitude f x ≡ q * 2 ^ k → q ≤ 2 ^ prec f → (0 < k → 2 ^ (prec f - 1) ≤ q) → toBits f x % 2 ≡ q % 2
+pattern-of-digits {f} q k h is most full = pattern-digit h ∙ ap (lastDigit f) is ∙ digit-of f q k most full

@@ -1,5 +1,5 @@
 -- From the general to the particular: sizes and their order; rounding as the kit does it (`RoundedSize`, `Rounded`) and the operations as roundings; then that this is what the
--- standard has delivered (`Values` to `Exact`); products, ranges and zeros; and last the rows of the standard for each operation, which leave one result.
+-- standard has delivered (`Values` to `Decimals`); products, ranges and zeros; and last the rows of the standard for each operation, which leave one result.
 pub mod Tests
 pub mod Magnitude
 pub mod Order

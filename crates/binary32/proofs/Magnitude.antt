@@ -23,6 +23,9 @@ pub record Number (f : Format) (x : Float) : Type 0 where
   pub fits : T (fits f x)
   pub number : T (not (isNan x))
 
+pub is-finite : {f : Format} {x : Float} → T (fits f x) → T (finite x) → Finite f x
+is-finite h t = record { fits = h; finite = t }
+
 pub finite-number : {f : Format} {x : Float} → Finite f x → Number f x
 unfolding isNan
 finite-number {f} {x} h = record { fits = h .fits; number = no-nan x (h .finite) }

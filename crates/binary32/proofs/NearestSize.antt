@@ -1,18 +1,18 @@
 -- The size that is nearest to a / c units, whatever its exponent: the kit's rounding keeps prec digits, w or the next number up, of a / c = w * 2 ^ k and a rest. No
 -- size of so few digits lies between w * 2 ^ k and (w + 1) * 2 ^ k, so none is nearer than the nearer of these two; and where both are equally
 -- near, the one that is taken ends with an even digit and the other with an odd one. In either format. Assumes nothing.
-use mathlib.Core.Path.{_≡_, refl, sym, ap, _∙_, subst}
+use mathlib.Core.Path.{_≡_, refl, sym, ap, _∙_, subst, subst₂}
 use mathlib.Core.Logic.{_⊎_, inl, inr, ⊎-elim}
 use Prim.Native.Nat.{ℕ, zero, suc, _+_, _-_, _*_, _/_, _%_, _^_, _≤_, _<_, compare, Ordering, Ordering·lt, Ordering·eq, Ordering·gt}
-use native.Mathlib.Nat.{add-zero, add-mul, mul-assoc, mul-comm, one-mul, suc-mul, lt-of-lt-of-le, mul-pos, mul-le-mul-right, eq-of-mul-eq-mul-right, eq-or-lt-of-le, le-trans, le-of-eq, le-div-iff-mul-le, div-div-eq-div-mul, div-add-mod', mod-lt}
+use native.Mathlib.Nat.{add-zero, add-mul, mul-assoc, mul-comm, one-mul, suc-mul, lt-of-lt-of-le, mul-pos, mul-le-mul-right, eq-of-mul-eq-mul-right, eq-or-lt-of-le, le-trans, le-of-eq, div-div-eq-div-mul, div-add-mod', mod-lt}
 use native.Mathlib.Decide.{decLe}
 use native.Mathlib.Omega.{arith}
 use borrow.Author.Tests.{leb-true, leb-false, eqb-true, eqb-false}
 use lib.Dec.{isLe, isEq}
-use lib.Pow.{pow-add, pow-pos, pow-mono, pow-lt}
+use lib.Pow.{shr-lt, shr-mono, shl-shr, pow-add, pow-pos, pow-mono, pow-lt}
 use lib.Ieee.{Format, prec, nearest}
-use lib.Ieee.Digits.{size-reaches}
-use lib.Ieee.Fits.{two, kept-lt}
+use lib.Ieee.Digits.{size-lt, size-reaches}
+use lib.Ieee.Fits.{two}
 use lib.Ieee.Order.{drop, kept}
 use Rattle.binary32.proofs.Magnitude.{pow-split}
 use Rattle.binary32.proofs.RoundedSize.{Short}
@@ -53,19 +53,6 @@ module _ (f : Format) (w k : ℕ) (full : 0 < k → 2 ^ (prec f - 1) ≤ w) wher
           inl (omega (arith, s .exact, pow-add 2 (prec f) j, pow-add 2 (prec f - 1) k))
 
 -- ---- which of the two is taken
-
-abbrev Compared : Ordering → ℕ → ℕ → Type 0
-Compared Ordering·lt a b = a < b
-Compared Ordering·eq a b = a ≡ b
-Compared Ordering·gt a b = b < a
-
-compared : (a b : ℕ) → Compared (compare a b) a b
-compared a b = go (compare a b) refl
-  where
-    go : (o : Ordering) → compare a b ≡ o → Compared o a b
-    go Ordering·lt e = let most : a ≤ b = leb-true a b (ap isLe e) in omega (arith, eqb-false a b (ap isEq e))
-    go Ordering·eq e = eqb-true a b (ap isEq e)
-    go Ordering·gt e = leb-false a b (ap isLe e)
 
 -- a is L = w * 2 ^ k * c and a rest r, which is less than the step u of 2 ^ k: the two candidates are L and L + u
 module _ (f : Format) (a c w k r : ℕ) (C : 0 < c) (full : 0 < k → 2 ^ (prec f - 1) ≤ w) (few : w < 2 ^ prec f)
@@ -125,16 +112,19 @@ module _ (f : Format) (a c w k r : ℕ) (C : 0 < c) (full : 0 < k → 2 ^ (prec 
         (others m s);
   }
 
-  nearest-taken : (o : Ordering) → Compared o (r * 2) (2 ^ k * c) → NearestSize f a c (nearest w o * 2 ^ k)
-  nearest-taken Ordering·lt h = lower (omega arith) (λ e. omega arith)
-  nearest-taken Ordering·gt h = upper (omega arith) (λ e. omega arith)
-  nearest-taken Ordering·eq h = go (w % 2) refl
-    where
-      go : (d : ℕ) → w % 2 ≡ d → NearestSize f a c ((w + d) * 2 ^ k)
-      go zero e = rw (add-zero w) (lower (omega arith) (λ t. e))
-      go (suc d) e =
-          let one : w + suc d ≡ suc w = omega arith in
-          subst (λ (n : ℕ). NearestSize f a c (n * 2 ^ k)) (sym one) (upper (omega arith) (λ t. omega arith))
+  -- a tie goes to the even one of w and w + 1
+  even-one : (d : ℕ) → w % 2 ≡ d → r * 2 ≡ 2 ^ k * c → NearestSize f a c ((w + d) * 2 ^ k)
+  even-one zero e h = rw (add-zero w) (lower (omega arith) (λ t. e))
+  even-one (suc d) e h =
+      let one : w + suc d ≡ suc w = omega arith in
+      subst (λ (n : ℕ). NearestSize f a c (n * 2 ^ k)) (sym one) (upper (omega arith) (λ t. omega arith))
+
+  nearest-taken : (o : Ordering) → compare (r * 2) (2 ^ k * c) ≡ o → NearestSize f a c (nearest w o * 2 ^ k)
+  nearest-taken Ordering·lt e = lower (leb-true _ _ (ap isLe e)) (λ tie. absurd (eqb-false _ _ (ap isEq e) tie))
+  nearest-taken Ordering·eq e = even-one (w % 2) refl (eqb-true _ _ (ap isEq e))
+  nearest-taken Ordering·gt e =
+      let more : 2 ^ k * c < r * 2 = leb-false _ _ (ap isLe e) in
+      upper (omega arith) (λ tie. omega arith)
 
 -- ---- so the kit's rounding, before it asks for overflow, gives the nearest size
 
@@ -145,15 +135,18 @@ pub unbounded-nearest : (f : Format) (a c : ℕ) → 0 < c → NearestSize f a c
 unfolding unbounded
 unbounded-nearest f a c C =
     let p = prec f in
+    let q = a / c in
     let k = drop p a c in
-    let u = c * 2 ^ k in
-    let U : 0 < u = mul-pos C (pow-pos k) in
-    let w = a / u in
-    let swap : u ≡ 2 ^ k * c = mul-comm c (2 ^ k) in
-    let few : w < 2 ^ p = subst (λ (n : ℕ). n < 2 ^ p) (div-div-eq-div-mul a c (2 ^ k)) (kept-lt p (a / c)) in
-    let full : 0 < k → 2 ^ (p - 1) ≤ w = λ h.
-    subst (λ (n : ℕ). 2 ^ (p - 1) ≤ n) (div-div-eq-div-mul a c (2 ^ k))
-    (le-div-iff-mul-le (pow-pos k) .1 (le-trans (le-of-eq (sym (pow-add 2 (p - 1) k))) (size-reaches (a / c) (p - 1 + k) (omega (arith, two f))))) in
-    let parts : a ≡ w * 2 ^ k * c + a % u = sym (div-add-mod' a u) ∙ ap (λ (n : ℕ). n + a % u) (ap (λ (n : ℕ). w * n) swap ∙ sym (mul-assoc w (2 ^ k) c)) in
-    nearest-taken f a c w k (a % u) C full few parts (lt-of-lt-of-le (mod-lt a U) (le-of-eq swap)) (compare (a % u * 2) u)
-    (subst (λ (n : ℕ). Compared (compare (a % u * 2) u) (a % u * 2) n) swap (compared (a % u * 2) u))
+    let u = 2 ^ k * c in
+    let w = q / 2 ^ k in
+    -- q has p + k digits, or at most p where k is 0
+    let few : w < 2 ^ p = shr-lt p k (lt-of-lt-of-le (size-lt q) (pow-mono (omega arith))) in
+    let full : 0 < k → 2 ^ (p - 1) ≤ w = λ some.
+    let reached : 2 ^ (p - 1) * 2 ^ k ≤ q = rw (← pow-add 2 (p - 1) k) (size-reaches q (p - 1 + k) (omega (arith, two f))) in
+    subst (λ (n : ℕ). n ≤ w) (shl-shr (2 ^ (p - 1)) k) (shr-mono k reached) in
+    let swap : u ≡ c * 2 ^ k = mul-comm (2 ^ k) c in
+    let once : a / (c * 2 ^ k) ≡ w = sym (div-div-eq-div-mul a c (2 ^ k)) in
+    let whole : a / u ≡ w = ap (λ (n : ℕ). a / n) swap ∙ once in
+    let parts : a ≡ w * 2 ^ k * c + a % u = sym (div-add-mod' a u) ∙ ap (λ (n : ℕ). n + a % u) (ap (λ (n : ℕ). n * u) whole ∙ sym (mul-assoc w (2 ^ k) c)) in
+    subst₂ (λ (n v : ℕ). NearestSize f a c (nearest n (compare (a % v * 2) v) * 2 ^ k)) (sym once) swap
+    (nearest-taken f a c w k (a % u) C full few parts (mod-lt a (mul-pos (pow-pos k) C)) (compare (a % u * 2) u) refl)

@@ -1,50 +1,25 @@
--- For every two operands the rows of specs/Operations.antt leave one result, by bits: two ways of computing that meet what IEEE 754-2019 asks of an operation give the
--- same, and the kit's is one. Rounding leaves one number, a zero's sign aside, and the rows of 6.3 its sign. In either format. Assumes nothing.
-use mathlib.Core.Path.{_≡_, refl, sym, _∙_}
+-- For every two operands the rows of specs/Operations.antt leave one value, so one result by bits unless it is the NaN: two ways of computing that meet what IEEE 754-2019
+-- asks of an operation give the same, and the kit's is one. Rounding leaves one number, a zero's sign aside, and the rows of 6.3 its sign. In either format. Assumes nothing.
+use mathlib.Core.Path.{_≡_, refl, sym, _∙_, subst}
 use mathlib.Core.Logic.{_⊎_, inl, inr}
-use mathlib.Core.Bool.{Bool, true, false, not, _||_, Bool·beq}
-use Prim.Native.Nat.{ℕ, zero, suc, _-_, _<_}
-use native.Mathlib.Nat.{eq-zero-or-pos, mul-pos}
-use native.Mathlib.Omega.{arith}
-use lib.Dec.{T, eqb, eqb→eq}
+use mathlib.Core.Bool.{Bool, true, false, not, _||_}
+use Prim.Native.Nat.{ℕ, zero, suc, _<_}
+use native.Mathlib.Nat.{zero-lt-suc, eq-zero-or-pos, mul-pos}
+use lib.Dec.{T}
 use lib.Pow.{pow-pos}
-use lib.IntN.{ℤ, pos, negsuc, ℤ-discrete, _+ℤ_}
-use lib.Ieee.{Float, inf, fin, Format, low, fits, isNan, level, eq}
-use lib.Ieee.Fits.{and-l, and-r, neg-fits}
+use lib.IntN.{ℤ, pos, negsuc, natAbs, ℤ-discrete, _+ℤ_}
+use lib.Ieee.{Float, inf, fin, Format, low, fits, isNan}
+use lib.Ieee.Fits.{neg-fits}
 use lib.Ieee.Scale.{finite}
 use Rattle.binary32.specs.Whole.{negative, magnitude, wholeOf}
 use Rattle.binary32.specs.Nearest.{RoundsTo}
 use Rattle.binary32.specs.Operations.{zeroOf, Addition, Subtraction, Multiplication, Division}
-use Rattle.binary32.proofs.Magnitude.{Number, Finite, finite-number, by-number₂, magnitude-zero, same-number}
-use Rattle.binary32.proofs.Order.{eq-sizes}
-use Rattle.binary32.proofs.Integers.{Difference}
-use Rattle.binary32.proofs.RoundedSize.{over-and-under}
+use Rattle.binary32.proofs.Magnitude.{Finite, is-finite, finite-number, by-number₂, magnitude-zero, same-number}
 use Rattle.binary32.proofs.Zero.{rounded-some}
-use Rattle.binary32.proofs.Delivered.{delivered-rounded, delivered-number, determined}
-use Rattle.binary32.proofs.Rows.{is-finite}
-
--- ---- equal numbers of one sign are one, and equal numbers that are not zero have one sign
-
-same-sign : (s t b : Bool) → T (Bool·beq s t || b) → (T b → ⊥) → s ≡ t
-same-sign true true b h k = refl
-same-sign false false b h k = refl
-same-sign true false b h k = absurd (k h)
-same-sign false true b h k = absurd (k h)
-
-level-both : (s : Bool) (a : ℕ) (t : Bool) (b : ℕ) → T (level s a t b) → (a ≡ b) × (0 < a → s ≡ t)
-level-both s a t b h =
-    let signs = Bool·beq s t || eqb a 0 in
-    (eqb→eq a b (and-l (eqb a b) signs h), λ some. same-sign s t (eqb a 0) (and-r (eqb a b) signs h) (λ none. omega (arith, eqb→eq a 0 none)))
-
-module _ {f : Format} {z w : Float} (hz : Number f z) (hw : Number f w) (e : eq z w ≡ true) where
-  levels : (magnitude f z ≡ magnitude f w) × (0 < magnitude f z → negative z ≡ negative w)
-  levels = level-both _ _ _ _ (rw (← eq-sizes hz hw, e) tt)
-
-  pub one-value : negative z ≡ negative w → z ≡ w
-  one-value s = same-number hz hw s (levels .0)
-
-  pub one-sign : 0 < magnitude f z → negative z ≡ negative w
-  one-sign = levels .1
+use Rattle.binary32.proofs.Delivered.{delivered-toward, delivered-rounded}
+use Rattle.binary32.proofs.Rounded.{same-rounded}
+use Rattle.binary32.proofs.Sides.{side, side-sign}
+use Rattle.binary32.proofs.Integers.{own-pair}
 
 -- ---- every two operands fall under a row
 
@@ -87,34 +62,31 @@ infinities false false = named (λ z r. r .infinite-both false refl refl)
 infinities true false = named (λ z r. r .invalid true refl refl)
 infinities false true = named (λ z r. r .invalid false refl refl)
 
--- rounding leaves a number, and so one value where there is one sign
-delivered-one : {f : Format} {P : ℤ} {c : ℕ} {z w : Float} → 0 < c → RoundsTo f P c z → RoundsTo f P c w → negative z ≡ negative w → z ≡ w
-delivered-one C a b = one-value (delivered-number C a) (delivered-number C b) (determined C a b)
+-- rounding leaves one number, and so one value where there is one sign
+delivered-one : {f : Format} {w : ℤ} {c : ℕ} {z y : Float} → 0 < c → RoundsTo f w c z → RoundsTo f w c y → negative z ≡ negative y → z ≡ y
+delivered-one {w} C a b = same-rounded (delivered-rounded a (own-pair w) C) (delivered-rounded b (own-pair w) C)
 
--- of whole units that are not nothing it leaves no zero, since one unit is a number of the format
-delivered-some : {f : Format} {w : ℤ} {z : Float} → RoundsTo f w 1 z → (w ≡ pos 0 → ⊥) → 0 < magnitude f z
-delivered-some {w = pos zero} r n = absurd (n refl)
-delivered-some {f} {w = pos (suc a)} {z} r n =
-    let own : Difference (pos (suc a)) (suc a) 0 = record { is = omega arith } in
-    omega (arith, over-and-under f z, delivered-rounded r own (pow-pos 0) .above, rounded-some f (suc a - 0) (omega arith))
-delivered-some {f} {w = negsuc a} {z} r n =
-    let own : Difference (negsuc a) 0 (suc a) = record { is = omega arith } in
-    omega (arith, over-and-under f z, delivered-rounded r own (pow-pos 0) .below, rounded-some f (suc a - 0) (omega arith))
+-- and the sign of whole units that are not nothing, since one unit is a number of the format
+some-units : (w : ℤ) → (w ≡ pos 0 → ⊥) → 0 < natAbs w
+some-units (pos zero) n = absurd (n refl)
+some-units (pos (suc a)) n = zero-lt-suc a
+some-units (negsuc a) n = zero-lt-suc a
 
--- a sum has one by its row where it is exactly zero, and elsewhere since it is not rounded to zero
+delivered-sign : {f : Format} {w : ℤ} {z : Float} → RoundsTo f w 1 z → (w ≡ pos 0 → ⊥) → negative z ≡ side w
+delivered-sign {f} {w} {z} r n =
+    side-sign (side w) f z (subst (λ (k : ℕ). 0 < k) (sym (delivered-toward r (pow-pos 0) .there)) (rounded-some f (natAbs w) (some-units w n)))
+
+-- a sum has one by its row where it is exactly zero, and elsewhere that of the exact sum
 sum-sign : {f : Format} {x y z w : Float} → T (finite x) → T (finite y) → Addition f x y z → Addition f x y w → negative z ≡ negative w
 sum-sign {f} {x} {y} p q a b = elim (ℤ-discrete (wholeOf f x +ℤ wholeOf f y) (pos 0)) [
   | yes e ↦ a .zero p q e ∙ sym (b .zero p q e)
-  | no n ↦
-      let ra = a .rounded p q in
-      let rb = b .rounded p q in
-      one-sign (delivered-number (pow-pos 0) ra) (delivered-number (pow-pos 0) rb) (determined (pow-pos 0) ra rb) (delivered-some ra n)
+  | no n ↦ delivered-sign (a .rounded p q) n ∙ sym (delivered-sign (b .rounded p q) n)
 ]
 
 pub addition-determined : {f : Format} {x y z w : Float} → T (fits f x) → T (fits f y) → Addition f x y z → Addition f x y w → z ≡ w
 addition-determined {f} hx hy =
     by-operands (λ x y. Determined (Addition f x y))
-    (λ h. named (λ z r. r .no-number h))
+    (λ h. named (λ z r. r .not-a-number h))
     infinities
     (λ s t n d h. named (λ z r. r .infinite-first s refl tt))
     (λ s m e t h. named (λ z r. r .infinite-second t tt refl))
@@ -129,7 +101,7 @@ pub multiplication-determined : {f : Format} {x y z w : Float} → T (fits f x) 
 unfolding magnitude
 multiplication-determined {f} hx hy =
     by-operands (λ x y. Determined (Multiplication f x y))
-    (λ h. named (λ z r. r .no-number h))
+    (λ h. named (λ z r. r .not-a-number h))
     (λ s t. named (λ z r. r .infinite-first s refl (pow-pos _)))
     (λ s t n d h. elim (zero-or-some h) [
       | inl e ↦ named (λ z r. r .invalid-first s _ refl e)
@@ -145,7 +117,7 @@ multiplication-determined {f} hx hy =
 pub division-determined : {f : Format} {x y z w : Float} → T (fits f x) → T (fits f y) → Division f x y z → Division f x y w → z ≡ w
 division-determined {f} hx hy =
     by-operands (λ x y. Determined (Division f x y))
-    (λ h. named (λ z r. r .no-number h))
+    (λ h. named (λ z r. r .not-a-number h))
     (λ s t. named (λ z r. r .invalid-infinities s t refl refl))
     (λ s t n d h. named (λ z r. r .infinite-first s refl tt))
     (λ s m e t h. named (λ z r. r .infinite-second t tt refl))

@@ -147,7 +147,7 @@ apart-second s t x o h = simp (ne-eqb x o (λ e. omega arith))
 bound-level : (s t : Bool) (o : ℕ) → 0 < o → Bool·beq s t ≡ level s o t o
 bound-level s t o h = simp (eq-eqb o o refl, ne-eqb o 0 (λ e. omega arith)) (sym (or-false (Bool·beq s t)))
 
-pub eq-sizes : {f : Format} {x y : Float} → Number f x → Number f y → eq x y ≡ level (negative x) (magnitude f x) (negative y) (magnitude f y)
+eq-sizes : {f : Format} {x y : Float} → Number f x → Number f y → eq x y ≡ level (negative x) (magnitude f x) (negative y) (magnitude f y)
 unfolding eq negative magnitude
 eq-sizes {f} =
     by-number₂ (λ x y. eq x y ≡ level (negative x) (magnitude f x) (negative y) (magnitude f y))

@@ -35,8 +35,12 @@ pub record Signed (f : Format) (x : Float) (s : Bool) (n : ℕ) : Type 0 where
   pub sign : negative x ≡ s
   pub size : magnitude f x ≡ n
 
-units-signed : (f : Format) (s : Bool) (q k : ℕ) → Signed f (units f s q k) s (cond (ltb (q * 2 ^ k) (overflow f)) (q * 2 ^ k) (overflow f))
-unfolding units
+-- a size, cut off at the overflow bound
+unfoldable pub limit : Format → ℕ → ℕ
+limit f n = cond (ltb n (overflow f)) n (overflow f)
+
+units-signed : (f : Format) (s : Bool) (q k : ℕ) → Signed f (units f s q k) s (limit f (q * 2 ^ k))
+unfolding units limit
 units-signed f s q k = go (ltb (q * 2 ^ k) (overflow f))
   where
     go : (b : Bool) → Signed f (cond b (odd (suc (prec f)) s q k (low f)) (inf s)) s (cond b (q * 2 ^ k) (overflow f))
@@ -47,9 +51,9 @@ units-signed f s q k = go (ltb (q * 2 ^ k) (overflow f))
     }
     go false = unfold isNan negative magnitude in record { number = tt; sign = refl; size = refl }
 
-pub round-signed : (f : Format) (s : Bool) (a c : ℕ) → Signed f (round f s a c) s (cond (ltb (grid f a c) (overflow f)) (grid f a c) (overflow f))
+pub round-signed : (f : Format) (s : Bool) (a c : ℕ) → Signed f (round f s a c) s (limit f (grid f a c))
 round-signed f s a c =
-    subst (λ (z : Float). Signed f z s (cond (ltb (grid f a c) (overflow f)) (grid f a c) (overflow f))) (sym (round-is f s a c))
+    subst (λ (z : Float). Signed f z s (limit f (grid f a c))) (sym (round-is f s a c))
     (units-signed f s (kept (prec f) (a * 2 ^ low f) c) (drop (prec f) (a * 2 ^ low f) c))
 
 pub round-number : (f : Format) (s : Bool) (a c : ℕ) → Number f (round f s a c)
@@ -124,6 +128,9 @@ pub record Short (f : Format) (n : ℕ) : Type 0 where
   pub shift : ℕ
   pub few : digits < 2 ^ prec f
   pub exact : n ≡ digits * 2 ^ shift
+
+pub nothing-short : (f : Format) → Short f 0
+nothing-short f = record { digits = 0; shift = 0; few = pow-pos (prec f); exact = refl }
 
 pub rounded-short : {f : Format} {n : ℕ} → Short f n → n < overflow f → roundedTo f n 1 ≡ n
 unfolding roundedTo

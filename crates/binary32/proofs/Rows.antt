@@ -10,10 +10,9 @@ use lib.Dec.{T, eqb}
 use lib.IntN.{ℤ, pos}
 use lib.Ieee.{Float, nan, inf, fin, Format, up, down, fits, isNan, sum, add, sub, mul, div, unlike}
 use lib.Ieee.Fits.{neg-fits}
-use lib.Ieee.Scale.{finite}
 use Rattle.binary32.specs.Whole.{negative, magnitude, over, under}
 use Rattle.binary32.specs.Operations.{zeroOf, Addition, Subtraction, Multiplication, Division}
-use Rattle.binary32.proofs.Magnitude.{Finite, by-finite, by-finite₂}
+use Rattle.binary32.proofs.Magnitude.{is-finite, Finite, by-finite, by-finite₂}
 use Rattle.binary32.proofs.Order.{Alike, sizes-alike}
 use Rattle.binary32.proofs.RoundedSize.{round-negative}
 use Rattle.binary32.proofs.Integers.{Difference, whole-difference, sum-of}
@@ -64,21 +63,18 @@ infinite-times f s (inf t) h = refl
 infinite-times f s (fin t n d) h = rw (not-zero f t n d h)
 
 -- an operation that gives a NaN wherever one stands
-no-number : (op : Float → Float → Float) → ((y : Float) → op nan y ≡ nan) → ((s : Bool) → op (inf s) nan ≡ nan)
+not-a-number : (op : Float → Float → Float) → ((y : Float) → op nan y ≡ nan) → ((s : Bool) → op (inf s) nan ≡ nan)
     → ((s : Bool) (m : ℕ) (e : ℤ) → op (fin s m e) nan ≡ nan) → (x y : Float) → T (isNan x || isNan y) → op x y ≡ nan
 unfolding isNan
-no-number op first after-inf after-fin nan y h = first y
-no-number op first after-inf after-fin (inf s) nan h = after-inf s
-no-number op first after-inf after-fin (inf s) (inf t) h = absurd h
-no-number op first after-inf after-fin (inf s) (fin t n d) h = absurd h
-no-number op first after-inf after-fin (fin s m e) nan h = after-fin s m e
-no-number op first after-inf after-fin (fin s m e) (inf t) h = absurd h
-no-number op first after-inf after-fin (fin s m e) (fin t n d) h = absurd h
+not-a-number op first after-inf after-fin nan y h = first y
+not-a-number op first after-inf after-fin (inf s) nan h = after-inf s
+not-a-number op first after-inf after-fin (inf s) (inf t) h = absurd h
+not-a-number op first after-inf after-fin (inf s) (fin t n d) h = absurd h
+not-a-number op first after-inf after-fin (fin s m e) nan h = after-fin s m e
+not-a-number op first after-inf after-fin (fin s m e) (inf t) h = absurd h
+not-a-number op first after-inf after-fin (fin s m e) (fin t n d) h = absurd h
 
 -- ---- the kit's operations meet the rows
-
-pub is-finite : {f : Format} {x : Float} → T (fits f x) → T (finite x) → Finite f x
-is-finite h t = record { fits = h; finite = t }
 
 module _ {f : Format} {x y : Float} (hx : T (fits f x)) (hy : T (fits f y)) where
   pub addition : Addition f x y (add f x y)
@@ -90,7 +86,7 @@ module _ {f : Format} {x y : Float} (hx : T (fits f x)) (hy : T (fits f y)) wher
     infinite-second = λ s p e. rw e (by-finite (λ x. add f x (inf s) ≡ inf s) (λ t m d h. refl) (is-finite hx p));
     infinite-both = λ s d e. rw (d, e) (elim s [ true ↦ refl | false ↦ refl ]);
     invalid = λ s d e. rw (d, e) (elim s [ true ↦ refl | false ↦ refl ]);
-    no-number = no-number (add f) (λ y. refl) (λ s. refl) (λ s m e. refl) x y;
+    not-a-number = not-a-number (add f) (λ y. refl) (λ s. refl) (λ s m e. refl) x y;
   }
 
   pub multiplication : Multiplication f x y (mul f x y)
@@ -102,7 +98,7 @@ module _ {f : Format} {x y : Float} (hx : T (fits f x)) (hy : T (fits f y)) wher
     infinite-second = λ s h e. rw (e, mul-swapped f x (inf s), unlike-swapped (negative x) s) (infinite-times f s x h);
     invalid-first = λ s t d e. rw (d, e);
     invalid-second = λ s t d e. rw (d, e);
-    no-number = no-number (mul f) (λ y. refl) (λ s. refl) (λ s m e. refl) x y;
+    not-a-number = not-a-number (mul f) (λ y. refl) (λ s. refl) (λ s m e. refl) x y;
   }
 
   pub division : Division f x y (div f x y)
@@ -116,7 +112,7 @@ module _ {f : Format} {x y : Float} (hx : T (fits f x)) (hy : T (fits f y)) wher
         rw e (by-finite (λ x. 0 < magnitude f x → div f x (zeroOf s) ≡ inf (unlike (negative x) s)) (λ t m d q g. rw (not-zero f t m d g)) (is-finite hx p) h);
     invalid-zeros = λ s t d e. rw (d, e);
     invalid-infinities = λ s t d e. rw (d, e);
-    no-number = no-number (div f) (λ y. refl) (λ s. refl) (λ s m e. refl) x y;
+    not-a-number = not-a-number (div f) (λ y. refl) (λ s. refl) (λ s m e. refl) x y;
   }
 
 pub subtraction : {f : Format} {x : Float} (y : Float) → T (fits f x) → T (fits f y) → Subtraction f x y (sub f x y)

@@ -7,13 +7,12 @@ use Prim.Native.Nat.{ℕ, suc, _+_, _-_, _*_, _<_, zero-le}
 use native.Mathlib.Nat.{add-zero, zero-add, add-comm}
 use native.Mathlib.Omega.{arith}
 use borrow.Author.Tests.{le-ltb}
-use lib.Pow.{pow-pos}
 use lib.IntN.{ℤ, pos, negsuc, natAbs, subℕ}
 use lib.Signed.{ltZ}
-use lib.Ieee.{Float, Format, prec}
+use lib.Ieee.{Float, Format}
 use Rattle.binary32.specs.Whole.{Finite, negative, magnitude, over, under, wholeOf}
 use Rattle.binary32.specs.Nearest.{distance}
-use Rattle.binary32.proofs.RoundedSize.{Short, short, under-positive, over-negative, over-and-under}
+use Rattle.binary32.proofs.RoundedSize.{Short, nothing-short, short, under-positive, over-negative, over-and-under}
 use Rattle.binary32.proofs.Integers.{Difference, whole-difference, same-difference, sum-of, negated-of, times-of, size-of}
 use Rattle.binary32.proofs.NearestSize.{gap}
 
@@ -51,9 +50,6 @@ pub sides-size : (s : Bool) (f : Format) (x : Float) → ahead s f x + behind s 
 unfolding ahead behind
 sides-size false f x = over-and-under f x
 sides-size true f x = add-comm (under f x) (over f x) ∙ over-and-under f x
-
-nothing-short : (f : Format) → Short f 0
-nothing-short f = record { digits = 0; shift = 0; few = pow-pos (prec f); exact = refl }
 
 one-side : (f : Format) (x : Float) → (over f x ≡ 0) ⊎ (under f x ≡ 0)
 one-side f x = go (negative x) refl

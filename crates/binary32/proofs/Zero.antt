@@ -6,12 +6,12 @@ use Prim.Native.Nat.{ℕ, _-_, _<_}
 use native.Mathlib.Nat.{zero-mul}
 use native.Mathlib.Omega.{arith}
 use lib.Pow.{pow-pos}
-use lib.Ieee.{Float, Format, binary32, binary64, prec, low, round, lt}
+use lib.Ieee.{Float, Format, binary32, binary64, low, round, lt}
 use Rattle.binary32.specs.Arithmetic.{_+f_, _-f_, _*f_, 0f}
 use Rattle.binary32.specs.Whole.{magnitude}
 use Rattle.binary32.proofs.Magnitude.{Finite, finite-number}
 use Rattle.binary32.proofs.Comparison.{lt-units, units-lt}
-use Rattle.binary32.proofs.RoundedSize.{roundedTo, rounded-nothing, rounded-mono}
+use Rattle.binary32.proofs.RoundedSize.{roundedTo, nothing-short, rounded-nothing, rounded-mono}
 use Rattle.binary32.proofs.Rounded.{Rounded, Exactly, exactly, by-fraction, by-difference}
 use Rattle.binary32.proofs.Operations.{add-rounded, sub-rounded, mul-rounded}
 use Rattle.binary32.proofs.Range.{zero-finite, zero-number, zero-over, zero-under}
@@ -20,7 +20,7 @@ use Rattle.binary32.proofs.Range.{zero-finite, zero-number, zero-over, 
 
 -- what nothing rounds to is exactly zero
 nothing : {f : Format} {z : Float} → Rounded f z 0 0 1 → Exactly f z 0
-nothing {f} r = exactly r (record { digits = 0; shift = 0; few = pow-pos (prec f); exact = refl }) (pow-pos _)
+nothing {f} r = exactly r (nothing-short f) (pow-pos _)
 
 pub zero-product : {x : Float} → Finite binary32 x → Exactly binary32 (0f *f x) 0
 zero-product {x} h =

@@ -1,6 +1,6 @@
--- Rounding to nearest, ties to even, as IEEE 754-2019, 4.3.1, has it, over whole numbers: what is to be delivered for an exact result, and no word on how to find
--- it. The exact result is the fraction p / c, c above 0, in units of the format's smallest value (2 ^ -149 at binary32). The numbers of the format are
--- whole numbers of units, so distances are compared as whole numbers, multiplied out by c. Definitions only.
+-- Rounding to nearest, ties to even (roundTiesToEven in IEEE 754-2019, 4.3.1), over whole numbers: what is to be delivered for an exact result, and no word on how
+-- to find it. The exact result is the fraction p / c, c above 0, in units of the format's smallest value (2 ^ -149 at binary32). The numbers of the format
+-- are whole numbers of units, so distances are compared as whole numbers, multiplied out by c. Definitions only.
 use Prim.Native.Nat.{ℕ, suc, _+_, _-_, _*_, _%_, _^_, _≤_, _<_}
 use mathlib.Core.Path.{_≡_}
 use lib.IntN.{ℤ, pos, natAbs, _-ℤ_, _*ℤ_}

@@ -14,7 +14,7 @@ pub record Finite (f : Format) (x : Float) : Type 0 where
   pub finite : T (finite x)
 
 -- The sizes of these numbers, in units of the smallest value, as 3.3 has them: a whole number of at most prec binary digits, times a power of two from 2 ^ 0 to
--- 2 ^ (emax - emin). emin is 1 - emax.
+-- 2 ^ (emax - emin). emin is 1 - emax. No definition rests on this one: proofs/Values shows that the sizes of the numbers that a format holds are just these.
 pub record Representable (f : Format) (n : ℕ) : Type 0 where
   pub digits : ℕ
   pub shift : ℕ

@@ -25,12 +25,8 @@ module _ {A : Type 0} where
   each-of-map P g [] h = tt
   each-of-map P g (a ∷ l) h = (h .0, each-of-map P g l (h .1))
 
-  -- where P holds of each, what P gives of one holds of each: of the value, of a mapped one, of the two that f and g make, and of two that are equal
+  -- where P holds of each, what P gives of one holds of each: of a mapped value, of the two that f and g make, and of two that are equal
   module _ (P : A → Type 0) where
-    pub each-still : (Q : A → Type 0) → ((a : A) → P a → Q a) → (l : List A) → Each P l → Each Q l
-    each-still Q k [] h = tt
-    each-still Q k (a ∷ l) h = (k a (h .0), each-still Q k l (h .1))
-
     pub each-map : {B : Type 0} (Q : B → Type 0) (g : A → B) → ((a : A) → P a → Q (g a)) → (l : List A) → Each P l → Each Q (map g l)
     each-map Q g k [] h = tt
     each-map Q g k (a ∷ l) h = (k a (h .0), each-map Q g k l (h .1))

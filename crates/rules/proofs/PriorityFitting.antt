@@ -2,16 +2,18 @@
 -- motor is the collective plus roll/pitch plus yaw, rounded at each sum. Assumes nothing.
 use mathlib.Core.Path.{_≡_}
 use mathlib.Core.List.{List, map, map-map}
+use Prim.Native.Nat.{ℕ, _<_}
 use lib.Dec.{T}
-use lib.Ieee.{Float, binary32, fits}
+use lib.ListN.{length, getD}
+use lib.Ieee.{Float, nan, binary32, fits}
 use lib.Ieee.Fits.{add-fits, mul-fits}
 use Rattle.binary32.specs.Arithmetic.{_+f_, _*f_, 1f}
 use Rattle.number.specs.Treat.{limited}
-use Rattle.rules.specs.Rows.{Row}
+use Rattle.rules.specs.Rows.{Row, noRow}
 use Rattle.rules.specs.Command.{roll, pitch, yaw, collective}
 use Rattle.rules.specs.Priority.{yawGroup, rollPitchGroup, yawScale, rollPitchScale, priorityMotor, priorityMotors}
-use Rattle.rules.specs.Promises.{Each, SumRounded, FitsBothOrders, rollPitchSum, prioritySum, FitsEitherWay}
-use Rattle.rules.proofs.Lists.{each-still, each-same}
+use Rattle.rules.specs.Promises.{Each, SumRounded, FitsBothOrders, rollPitchSum, prioritySum, AllFitBothOrders}
+use Rattle.rules.proofs.Lists.{each-same, each-at, map-at}
 use Rattle.rules.proofs.Clamp.{Floor, limited-floor, treated-finite}
 use Rattle.rules.proofs.FittingSum.{Fitted, scale-one-first, fitting-sum, fitting-scale}
 
@@ -67,13 +69,16 @@ module _ (torque : List Float) (thrust floor : Float) (hf : T (fits binary32 flo
 
 -- ---- the mix; nothing is asked of the thrust
 
-pub priority-fitting : (rows : List Row) (torque : List Float) (thrust floor : Float) → T (fits binary32 floor) → FitsEitherWay rows torque thrust floor
+pub priority-fitting : (rows : List Row) (torque : List Float) (thrust floor : Float) → T (fits binary32 floor) → AllFitBothOrders rows torque thrust floor
     → priorityMotors rows torque thrust floor ≡ map (prioritySum torque thrust floor) rows
 unfolding priorityMotors
 priority-fitting rows torque thrust floor hf w =
     rw (yaw-scale torque thrust floor hf rows w, roll-pitch-scale torque thrust floor hf rows w)
     (each-same _ _ _ (fitting-motor torque thrust floor hf) rows w)
 
-pub priority-nearest : (rows : List Row) (torque : List Float) (thrust floor : Float) → T (fits binary32 floor) → FitsEitherWay rows torque thrust floor
-    → Each (λ row. SumRounded (rollPitchSum torque thrust floor row) (yawGroup (yaw torque) row) (prioritySum torque thrust floor row)) rows
-priority-nearest rows torque thrust floor hf w = each-still _ _ (λ row v. yaw-last torque thrust floor hf row v .rounded) rows w
+pub priority-nearest : (rows : List Row) (torque : List Float) (thrust floor : Float) → T (fits binary32 floor) → AllFitBothOrders rows torque thrust floor
+    → (i : ℕ) → i < length rows
+    → SumRounded (rollPitchSum torque thrust floor (getD rows i noRow)) (yawGroup (yaw torque) (getD rows i noRow)) (getD (priorityMotors rows torque thrust floor) i nan)
+priority-nearest rows torque thrust floor hf w i s =
+    rw (priority-fitting rows torque thrust floor hf w, map-at (prioritySum torque thrust floor) noRow nan rows i s)
+    (yaw-last torque thrust floor hf (getD rows i noRow) (each-at _ noRow rows w i s) .rounded)

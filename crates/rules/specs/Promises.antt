@@ -5,7 +5,7 @@ use mathlib.Core.Bool.{true, false, not}
 use mathlib.Core.List.{List, [], _∷_, map}
 use Prim.Native.Nat.{ℕ, _<_}
 use lib.Dec.{T}
-use lib.ListN.{getD, take}
+use lib.ListN.{length, getD, take}
 use lib.Ieee.{Float, nan, inf, binary32, lt, le, eq, isNan, ofBits}
 use Rattle.binary32.specs.Arithmetic.{_+f_, 0f, 1f}
 use Rattle.binary32.specs.Rounding.{rounding}
@@ -13,7 +13,7 @@ use Rattle.binary32.specs.Nearest.{Nearest, TiesToEven}
 use Rattle.binary32.specs.Range.{Between, exactSum, SumWithin}
 use Rattle.number.specs.Treat.{limited}
 use Rattle.fit.specs.Fit.{EachMotor}
-use Rattle.rules.specs.Rows.{Row, quadRows, quadXRows}
+use Rattle.rules.specs.Rows.{Row, noRow, quadRows, quadXRows}
 use Rattle.rules.specs.Command.{roll, pitch, yaw, collective, deltas}
 use Rattle.rules.specs.Extremes.{largest}
 use Rattle.rules.specs.Plain.{rawSums, plainMotors}
@@ -41,7 +41,8 @@ NotInfinity x = x ≡ inf false → ⊥
 -- m is the exact sum of x and y "rounded once, zero's sign aside"
 pub record SumRounded (x y m : Float) : Type 0 where
   pub once : eq m (rounding binary32 (exactSum x y) 1) ≡ true
-  -- in the standard's words: no f32 is nearer to the exact sum, and where another is as near, m is the one whose bit pattern is even
+  -- the same in the standard's words, which leave no other number: no f32 is nearer to the exact sum, and where another is as near, m is the one whose bit
+  -- pattern is even
   pub nearest : Nearest binary32 (exactSum x y) 1 m
   pub even : TiesToEven binary32 (exactSum x y) 1 m
 
@@ -76,18 +77,19 @@ abbrev pub prioritySum : List Float → Float → Float → Row → Float
 prioritySum torque thrust floor row = rollPitchSum torque thrust floor row +f yawGroup (yaw torque) row
 
 -- the command fits: "for both orders and every motor"
-abbrev pub FitsEitherWay : List Row → List Float → Float → Float → Type 0
-FitsEitherWay rows torque thrust floor =
+abbrev pub AllFitBothOrders : List Row → List Float → Float → Float → Type 0
+AllFitBothOrders rows torque thrust floor =
     Each (λ row. FitsBothOrders floor (collective thrust floor) (rollPitchGroup (roll torque) (pitch torque) row) (yawGroup (yaw torque) row)) rows
 
 pub record PriorityKeeps (rows : List Row) (torque : List Float) (thrust floor : Float) (motors : List Float) : Type 0 where
   pub bounded : Bounded floor motors
   pub unit : InUnit motors
   -- "each motor is collective plus roll/pitch plus yaw, rounded at each sum"
-  pub fitting : FitsEitherWay rows torque thrust floor → motors ≡ map (prioritySum torque thrust floor) rows
-  -- so each is a nearest f32 to (collective plus roll/pitch, rounded) plus yaw, exactly
-  pub nearest : FitsEitherWay rows torque thrust floor
-      → Each (λ row. SumRounded (rollPitchSum torque thrust floor row) (yawGroup (yaw torque) row) (prioritySum torque thrust floor row)) rows
+  pub fitting : AllFitBothOrders rows torque thrust floor → motors ≡ map (prioritySum torque thrust floor) rows
+  -- so each motor is a nearest f32 to (collective plus roll/pitch, rounded) plus yaw, exactly
+  pub nearest : AllFitBothOrders rows torque thrust floor
+      → (i : ℕ) → i < length rows
+      → SumRounded (rollPitchSum torque thrust floor (getD rows i noRow)) (yawGroup (yaw torque) (getD rows i noRow)) (getD motors i nan)
 
 pub record AirmodeKeeps (rows : List Row) (torque : List Float) (thrust idle : Float) (motors : List Float) : Type 0 where
   pub bounded : Bounded idle motors
