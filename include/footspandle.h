@@ -167,8 +167,8 @@ void footspandle_quad_mix(footspandle_quad *state, const float torque_body[3], f
  * thrust, or the floor where the thrust is under it. The scale starts at 1, and each motor whose delta
  * is over 1e-6 in size limits it to the room that the delta has, to 1 or to the floor, by the delta.
  * Promised: every motor lies from the floor to 1. A command that fits is not cut: each motor is the
- * exact sum of collective and delta, rounded once, zero's sign aside, and the scale is 1. A larger
- * delta never gets a smaller motor.
+ * exact sum of collective and delta, rounded once, zero's sign aside, so that no float is nearer to
+ * that sum, and the scale is 1. A larger delta never gets a smaller motor.
  * The scale that the deltas were multiplied by, in 0..1 (it may be -0), is recorded.
  */
 void footspandle_quad_mix_thrust_floor(footspandle_quad *state, const float torque_body[3], float thrust, float floor);
@@ -180,7 +180,8 @@ void footspandle_quad_mix_thrust_floor(footspandle_quad *state, const float torq
  * as scaled.
  * Promised: every motor lies from the floor to 1. A command is not cut if it fits in both orders (the
  * collective plus one group, rounded, and then plus the other exactly, lies from the floor to 1, for
- * every motor): each motor then is collective plus roll and pitch plus yaw, rounded at each sum.
+ * every motor): each motor then is collective plus roll and pitch plus yaw, rounded at each sum, so
+ * that no float is nearer to the second.
  * The recorded scale stays.
  */
 void footspandle_quad_mix_priority(footspandle_quad *state, const float torque_body[3], float thrust, float floor);
@@ -192,7 +193,8 @@ void footspandle_quad_mix_priority(footspandle_quad *state, const float torque_b
  * under idle, all are shifted up to bring it there, or else, if the highest is over 1, down to bring it
  * there.
  * Promised: every motor lies from the idle floor to 1. A command that fits is not cut: each motor is
- * the exact sum of collective and delta, rounded once, zero's sign aside.
+ * the exact sum of collective and delta, rounded once, zero's sign aside, so that no float is nearer
+ * to that sum.
  * The recorded scale stays.
  */
 void footspandle_quad_mix_airmode(footspandle_quad *state, const float torque_body[3], float thrust, float idle);
