@@ -2,7 +2,7 @@
 -- lies under the overflow bound. The bound lies halfway between the largest number of the format and the overflow bound. In either format. Assumes nothing.
 use mathlib.Core.Path.{_≡_, refl, sym, ap, _∙_}
 use mathlib.Core.Bool.{Bool, true, false, cond}
-use Prim.Native.Nat.{ℕ, suc, _+_, _-_, _*_, _^_, _≤_, _<_}
+use Prim.Native.Nat.{ℕ, _+_, _-_, _*_, _^_, _≤_, _<_}
 use native.Mathlib.Nat.{add-mul, mul-one, mul-assoc, mul-comm, mul-left-comm, mul-pos, mul-le-mul-right, le-antisymm, le-trans, le-of-eq, lt-of-not-le, lt-of-le-of-lt}
 use native.Mathlib.Omega.{arith}
 use borrow.Author.Tests.{lt-ltb, ltb-true}
@@ -15,6 +15,7 @@ use lib.Ieee.Scale.{overflow}
 use Rattle.binary32.specs.Whole.{magnitude}
 use Rattle.binary32.specs.Nearest.{bound}
 use Rattle.binary32.proofs.RoundedSize.{limit, roundedTo, Short, round-signed, rounded-mono}
+use Rattle.binary32.proofs.Values.{largest}
 use Rattle.binary32.proofs.NearestSize.{gap, unbounded, unbounded-nearest}
 
 -- ---- what a / c rounds to is its nearest size, cut off at the overflow bound
@@ -49,9 +50,6 @@ limit-most f n = go (ltb n (overflow f)) refl
 half : Format → ℕ
 half f = 2 ^ (low f + emax f - prec f)
 
-largest : Format → ℕ
-largest f = (2 ^ prec f - 1) * 2 ^ (low f + suc (emax f) - prec f)
-
 bound-half : (f : Format) → bound f + half f ≡ overflow f
 unfolding bound half
 bound-half binary32 = refl
@@ -81,7 +79,7 @@ unfolding largest half
 under-overflow f a c C h =
     let n = unbounded f a c in
     let M = largest f in
-    let most : Short f M = record { digits = 2 ^ prec f - 1; shift = low f + suc (emax f) - prec f; few = pow-sub-lt (prec f) (pow-pos 0); exact = refl } in
+    let most : Short f M = record { digits = 2 ^ prec f - 1; shift = 2 * emax f - 1; few = pow-sub-lt (prec f) (pow-pos 0); exact = refl } in
     let nearer : gap a (n * c) ≤ gap a (M * c) = unbounded-nearest f a c C .nearest M most in
     let first : bound f * c + half f * c ≡ overflow f * c = sym (add-mul (bound f) (half f) c) ∙ ap (λ (x : ℕ). x * c) (bound-half f) in
     let second : M * c + half f * c ≡ bound f * c = sym (add-mul M (half f) c) ∙ ap (λ (x : ℕ). x * c) (largest-half f) in

@@ -11,10 +11,10 @@ use lib.Pow.{pow-pos}
 use lib.IntN.{ℤ, natAbs}
 use lib.Ieee.{Float, inf, Format, fits, toBits, eq, isNan}
 use lib.Ieee.Scale.{overflow, finite}
-use Rattle.binary32.specs.Whole.{Finite, negative, magnitude}
+use Rattle.binary32.specs.Whole.{negative, magnitude}
 use Rattle.binary32.specs.Rounding.{rounding}
 use Rattle.binary32.specs.Nearest.{distance, bound, Nearest, TiesToEven, RoundsTo}
-use Rattle.binary32.proofs.Magnitude.{Number, finite-number, under-finite, same-number}
+use Rattle.binary32.proofs.Magnitude.{Number, Finite, is-finite, finite-number, under-finite, same-number}
 use Rattle.binary32.proofs.Rounded.{Rounded, one-number}
 use Rattle.binary32.proofs.Integers.{Difference, own-pair, rounding-rounded}
 use Rattle.binary32.proofs.LastDigit.{lastDigit, pattern-digit}
@@ -52,14 +52,15 @@ module _ {f : Format} {z : Float} {w : ℤ} {c : ℕ} (C : 0 < c) (t : Toward f 
 
     nearest : Nearest f w c z
     nearest = record {
-      number = number;
-      nearest = λ y hy. subst₂ _≤_ (sym (toward-distance t)) (sym (distance-sided f w c y)) (farther C nearest-size (sides (side w) hy));
+      held = number .fits;
+      number = number .finite;
+      nearest = λ y h i. subst₂ _≤_ (sym (toward-distance t)) (sym (distance-sided f w c y)) (farther C nearest-size (sides (side w) (is-finite h i)));
     }
 
     ties-to-even : TiesToEven f w c z
-    ties-to-even y hy e differ =
+    ties-to-even y h i e differ =
         let level = sym (distance-sided f w c y) ∙ e ∙ toward-distance t in
-        let tie = tied C nearest-size (sides (side w) hy) level (λ o u. differ (whole-of-sides (side w) f y z o (u ∙ sym (t .back)))) in
+        let tie = tied C nearest-size (sides (side w) (is-finite h i)) level (λ o u. differ (whole-of-sides (side w) f y z o (u ∙ sym (t .back)))) in
         pattern-digit number ∙ ap (lastDigit f) (toward-size t) ∙ tie .even
 
   delivered : RoundsTo f w c z
@@ -77,25 +78,30 @@ rounding-delivered f w c C = rounds-to (rounding-rounded f c (own-pair w) C) (ow
 module _ {f : Format} {z k : Float} {w : ℤ} {c : ℕ} (C : 0 < c) (t : Toward f k w c) (r : RoundsTo f w c z) where
   -- both are nearest, so they are equally near; were they two, then the last digit of z, which is even by 4.3.1, would be odd
   module _ (h : natAbs w < bound f * c) where
+    own : Finite f z
+    own = is-finite (r .within h .0 .held) (r .within h .0 .number)
+
     level : distance f w c k ≡ distance f w c z
-    level = le-antisymm (nearest C t h .nearest z (r .within h .0 .number)) (r .within h .0 .nearest k (number C t h))
+    level =
+        let kits = number C t h in
+        le-antisymm (nearest C t h .nearest z (own .fits) (own .finite)) (r .within h .0 .nearest k (kits .fits) (kits .finite))
 
     not-two : (ahead (side w) f z ≡ ahead (side w) f k → behind (side w) f z ≡ 0 → ⊥) → ⊥
     not-two differ =
         let near = sym (distance-sided f w c z) ∙ sym level ∙ toward-distance t in
-        let tie = tied C (nearest-size C t h) (sides (side w) (r .within h .0 .number)) near differ in
+        let tie = tied C (nearest-size C t h) (sides (side w) own) near differ in
         let even : toBits f z % 2 ≡ 0 =
-        r .within h .1 k (number C t h) level
+        r .within h .1 k (number C t h .fits) (number C t h .finite) level
         (λ e. let same = sides-of-whole (side w) f k z e in differ (sym (same .0)) (sym (same .1) ∙ t .back)) in
         let size : magnitude f z ≡ ahead (side w) f z = omega (arith, sides-size (side w) f z, tie .none) in
-        let digit : lastDigit f (ahead (side w) f z) ≡ 0 = ap (lastDigit f) (sym size) ∙ sym (pattern-digit (r .within h .0 .number)) ∙ even in
+        let digit : lastDigit f (ahead (side w) f z) ≡ 0 = ap (lastDigit f) (sym size) ∙ sym (pattern-digit own) ∙ even in
         omega (arith, tie .odd)
 
     nearest-toward : Toward f z w c
     nearest-toward = go (ℕ-discrete (ahead (side w) f z) (ahead (side w) f k)) (ℕ-discrete (behind (side w) f z) 0)
       where
         go : Dec (ahead (side w) f z ≡ ahead (side w) f k) → Dec (behind (side w) f z ≡ 0) → Toward f z w c
-        go (yes o) (yes u) = record { number = finite-number (r .within h .0 .number); there = o ∙ t .there; back = u }
+        go (yes o) (yes u) = record { number = finite-number own; there = o ∙ t .there; back = u }
         go (no n) u = absurd (not-two (λ o v. n o))
         go (yes o) (no n) = absurd (not-two (λ i u. n u))
 

@@ -11,8 +11,8 @@ use lib.Pow.{pow-add, pow-mono, pow-lt, shl-lt, shl-shr}
 use lib.Ieee.{Float, Format, prec, size, hid, ones, top, toBits}
 use lib.Ieee.Digits.{size-lt, size-le}
 use lib.Ieee.Fits.{two}
-use Rattle.binary32.specs.Whole.{Finite, negative, magnitude}
-use Rattle.binary32.proofs.Magnitude.{bits-of, bits-are, pow-split}
+use Rattle.binary32.specs.Whole.{negative, magnitude}
+use Rattle.binary32.proofs.Magnitude.{Finite, bits-of, bits-are, pow-split}
 
 unfoldable pub lastDigit : Format → ℕ → ℕ
 lastDigit f n = n / 2 ^ (size n - prec f) % 2

@@ -14,7 +14,6 @@ use lib.Ieee.Digits.{back}
 use lib.Ieee.Exact.{HasValue}
 use lib.Ieee.Fits.{and-l, and-r, down-pos}
 use lib.Ieee.Scale.{overflow, finite}
-pub use Rattle.binary32.specs.Whole.{Finite}
 use Rattle.binary32.specs.Whole.{negative, magnitude}
 
 -- ---- what is asked of a number: the format holds it, and it is no NaN, or finite
@@ -22,6 +21,10 @@ use Rattle.binary32.specs.Whole.{negative, magnitude}
 pub record Number (f : Format) (x : Float) : Type 0 where
   pub fits : T (fits f x)
   pub number : T (not (isNan x))
+
+pub record Finite (f : Format) (x : Float) : Type 0 where
+  pub fits : T (fits f x)
+  pub finite : T (finite x)
 
 pub is-finite : {f : Format} {x : Float} → T (fits f x) → T (finite x) → Finite f x
 is-finite h t = record { fits = h; finite = t }

@@ -10,8 +10,9 @@ use borrow.Author.Tests.{le-ltb}
 use lib.IntN.{ℤ, pos, negsuc, natAbs, subℕ}
 use lib.Signed.{ltZ}
 use lib.Ieee.{Float, Format}
-use Rattle.binary32.specs.Whole.{Finite, negative, magnitude, over, under, wholeOf}
+use Rattle.binary32.specs.Whole.{negative, magnitude, over, under, wholeOf}
 use Rattle.binary32.specs.Nearest.{distance}
+use Rattle.binary32.proofs.Magnitude.{Finite}
 use Rattle.binary32.proofs.RoundedSize.{Short, nothing-short, short, under-positive, over-negative, over-and-under}
 use Rattle.binary32.proofs.Integers.{Difference, whole-difference, same-difference, sum-of, negated-of, times-of, size-of}
 use Rattle.binary32.proofs.NearestSize.{gap}

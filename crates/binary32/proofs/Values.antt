@@ -3,14 +3,14 @@
 use mathlib.Core.Path.{_≡_, refl, sym, ap, _∙_}
 use mathlib.Core.Bool.{Bool}
 use Prim.Native.Nat.{ℕ, suc, _+_, _-_, _*_, _^_, _≤_, _<_}
-use native.Mathlib.Nat.{mul-assoc, lt-of-mul-lt-mul-right, lt-of-lt-of-le, lt-of-le-of-lt, le-of-eq}
+use native.Mathlib.Nat.{mul-assoc, lt-of-mul-lt-mul-right, lt-of-lt-of-le, lt-of-le-of-lt, le-of-eq, le-trans, mul-le-mul-left, mul-le-mul-right}
 use native.Mathlib.Decide.{decLe}
 use native.Mathlib.Omega.{arith}
-use lib.Pow.{pow-add, pow-mono, shl-lt}
+use lib.Pow.{pow-add, pow-mono, le-ones, shl-lt}
 use lib.Ieee.{Float, Format, binary32, binary64, prec, emax, low, round}
 use lib.Ieee.Scale.{overflow}
-use Rattle.binary32.specs.Whole.{Finite, Representable, negative, magnitude}
-use Rattle.binary32.proofs.Magnitude.{finite-under, under-finite, pow-split}
+use Rattle.binary32.specs.Whole.{Representable, negative, magnitude}
+use Rattle.binary32.proofs.Magnitude.{Finite, finite-under, under-finite, pow-split}
 use Rattle.binary32.proofs.RoundedSize.{roundedTo, Short, short, rounded-short, round-number, round-negative, round-size}
 
 -- the largest shift, and all digits, reach up to the overflow bound
@@ -39,6 +39,17 @@ representable {f} {x} h = go (decLe (k .shift) most)
         let under : d * 2 ^ most < 2 ^ prec f * 2 ^ most =
         lt-of-le-of-lt (le-of-eq (sym is)) (lt-of-lt-of-le (finite-under h) (le-of-eq (ap (λ (n : ℕ). 2 ^ n) (sym (reaches f)) ∙ pow-add 2 (prec f) most))) in
         record { digits = d; shift = most; few = lt-of-mul-lt-mul-right (2 ^ most) under; reach = omega arith; is = is }
+
+-- ---- the largest of them
+
+unfoldable pub largest : Format → ℕ
+largest f = (2 ^ prec f - 1) * 2 ^ (2 * emax f - 1)
+
+pub at-most-largest : {f : Format} {x : Float} → Finite f x → magnitude f x ≤ largest f
+unfolding largest
+at-most-largest {f} h =
+    let r = representable h in
+    le-trans (le-of-eq (r .is)) (le-trans (mul-le-mul-right (2 ^ r .shift) (le-ones (prec f) (r .few))) (mul-le-mul-left (2 ^ prec f - 1) (pow-mono (r .reach))))
 
 -- ---- and a number of each such size
 

@@ -4,23 +4,27 @@
 use Prim.Native.Nat.{ℕ, suc, _+_, _-_, _*_, _%_, _^_, _≤_, _<_}
 use mathlib.Core.Path.{_≡_}
 use lib.IntN.{ℤ, pos, natAbs, _-ℤ_, _*ℤ_}
+use lib.Dec.{T}
 use lib.Signed.{ltZ}
-use lib.Ieee.{Float, inf, Format, prec, emax, low, toBits}
-use Rattle.binary32.specs.Whole.{Finite, wholeOf}
+use lib.Ieee.{Float, inf, Format, prec, emax, low, fits, toBits}
+use lib.Ieee.Scale.{finite}
+use Rattle.binary32.specs.Whole.{wholeOf}
 
 -- how far the number z lies from p / c, multiplied by c
 unfoldable pub distance : Format → ℤ → ℕ → Float → ℕ
 distance f p c z = natAbs (p -ℤ wholeOf f z *ℤ pos c)
 
--- the nearest number is delivered: z is a number of the format, and no number of the format is nearer
+-- the nearest number is delivered: z is a number of the format, which holds it and in which it is finite, and no number of the format is nearer
 pub record Nearest (f : Format) (p : ℤ) (c : ℕ) (z : Float) : Type 0 where
-  pub number : Finite f z
-  pub nearest : (y : Float) → Finite f y → distance f p c z ≤ distance f p c y
+  pub held : T (fits f z)
+  pub number : T (finite z)
+  pub nearest : (y : Float) → T (fits f y) → T (finite y) → distance f p c z ≤ distance f p c y
 
 -- of two that are equally near, the one whose last digit is even: where another number is as near as z, the bit pattern of z is even. (What the standard adds
 -- for formats of one digit does not arise: these have 24 and 53.)
 abbrev pub TiesToEven : Format → ℤ → ℕ → Float → Type 0
-TiesToEven f p c z = (y : Float) → Finite f y → distance f p c y ≡ distance f p c z → (wholeOf f y ≡ wholeOf f z → ⊥) → toBits f z % 2 ≡ 0
+TiesToEven f p c z =
+    (y : Float) → T (fits f y) → T (finite y) → distance f p c y ≡ distance f p c z → (wholeOf f y ≡ wholeOf f z → ⊥) → toBits f z % 2 ≡ 0
 
 -- the standard's bound, 2 ^ emax * (2 - 2 ^ -prec), in units: 2 ^ 127 * (2 - 2 ^ -24) at binary32, half a step over the largest number
 unfoldable pub bound : Format → ℕ

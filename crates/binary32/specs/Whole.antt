@@ -3,18 +3,12 @@
 use mathlib.Core.Path.{_≡_}
 use Prim.Native.Nat.{ℕ, _-_, _*_, _/_, _^_, _≤_, _<_}
 use mathlib.Core.Bool.{Bool, false, cond}
-use lib.Dec.{T}
 use lib.IntN.{ℤ, subℕ}
-use lib.Ieee.{Float, nan, inf, fin, Format, prec, emax, up, down, low, fits}
-use lib.Ieee.Scale.{overflow, finite}
+use lib.Ieee.{Float, nan, inf, fin, Format, prec, emax, up, down, low}
+use lib.Ieee.Scale.{overflow}
 
--- x is a number of the format: the format holds it, and it is finite, so neither an infinity nor a NaN
-pub record Finite (f : Format) (x : Float) : Type 0 where
-  pub fits : T (fits f x)
-  pub finite : T (finite x)
-
--- The sizes of these numbers, in units of the smallest value, as 3.3 has them: a whole number of at most prec binary digits, times a power of two from 2 ^ 0 to
--- 2 ^ (emax - emin). emin is 1 - emax. No definition rests on this one: proofs/Values shows that the sizes of the numbers that a format holds are just these.
+-- The sizes of the numbers of a format, in units of the smallest value, as 3.3 has them: a whole number of at most prec binary digits, times a power of two from 2 ^ 0
+-- to 2 ^ (emax - emin). emin is 1 - emax. No definition rests on this one: proofs/Values shows that the numbers that the kit's `fits` accepts have just these sizes.
 pub record Representable (f : Format) (n : ℕ) : Type 0 where
   pub digits : ℕ
   pub shift : ℕ
