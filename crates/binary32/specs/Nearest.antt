@@ -14,7 +14,7 @@ use Rattle.binary32.specs.Whole.{wholeOf}
 unfoldable pub distance : Format → ℤ → ℕ → Float → ℕ
 distance f p c z = natAbs (p -ℤ wholeOf f z *ℤ pos c)
 
--- the nearest number is delivered: z is a number of the format, which holds it and in which it is finite, and no number of the format is nearer
+-- the nearest number is delivered: z is a number of the format (the format holds it, and it is finite), and no number of the format is nearer
 pub record Nearest (f : Format) (p : ℤ) (c : ℕ) (z : Float) : Type 0 where
   pub held : T (fits f z)
   pub number : T (finite z)
