@@ -11,7 +11,7 @@ use Rattle.quad.specs.declared.QuadMixer.{QuadMixer}
 use Rattle.quad.specs.Mixes.{PlainGives, ThrustFloorGives, PriorityGives, AirmodeGives, RotorOutGives}
 use Rattle.quad.specs.State.{fresh, Mixed}
 
-mixed-determined : {motors : List Float} {scale : Float} {Keeps : List Float → Float → Type 0} → Determined (Mixed motors scale Keeps)
+mixed-determined : {after : QuadMixer} {Keeps : List Float → Float → Type 0} → Determined (Mixed after Keeps)
 mixed-determined r q h k = equal-determined r q (h .is) (k .is)
 
 -- ---- the public functions

@@ -3,7 +3,7 @@ use mathlib.Core.Path.{_≡_, sym, subst}
 use mathlib.Core.List.{List}
 use lib.Ieee.{Float}
 use Rattle.quad.specs.declared.QuadMixer.{QuadMixer}
-use Rattle.quad.specs.State.{state, Mixed}
+use Rattle.quad.specs.State.{Mixed}
 
-pub mixed : {motors : List Float} {scale : Float} {Keeps : List Float → Float → Type 0} {q : QuadMixer} → q ≡ state motors scale → Keeps motors scale → Mixed motors scale Keeps q
+pub mixed : {after : QuadMixer} {Keeps : List Float → Float → Type 0} {q : QuadMixer} → q ≡ after → Keeps (after .«last_motors») (after .«last_torque_scale») → Mixed after Keeps q
 mixed {Keeps} e k = record { is = e; keeps = subst (λ (q : QuadMixer). Keeps (q .«last_motors») (q .«last_torque_scale»)) (sym e) k }

@@ -13,8 +13,7 @@ state motors scale = record { «last_motors» = motors; «last_torque_scale» = 
 abbrev pub fresh : QuadMixer
 fresh = state (0f ∷ 0f ∷ 0f ∷ 0f ∷ []) 1f
 
--- A mix gives the state of these motors and this scale, by bits, and what it promises of them holds. The scale is that of the state before for the mixes that
--- leave it ("Plain, priority and airmode don't touch the recorded scale"), 1 for rotor-out ("records scale 1 always") and thrust-floor's own.
-pub record Mixed (motors : List Float) (scale : Float) (Keeps : List Float → Float → Type 0) (q : QuadMixer) : Type 0 where
-  pub is : q ≡ state motors scale
+-- A mix gives this state, by bits, and what it promises of the motors and the recorded scale holds of those in it.
+pub record Mixed (after : QuadMixer) (Keeps : List Float → Float → Type 0) (q : QuadMixer) : Type 0 where
+  pub is : q ≡ after
   pub keeps : Keeps (q .«last_motors») (q .«last_torque_scale»)

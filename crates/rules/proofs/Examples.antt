@@ -1,20 +1,23 @@
 -- The promises that ask something of a command can be met. Those of `fitting`, in each of the three mixes that make one: two commands to the quad fit. One
 -- has sums that are no f32, so that they have to be rounded; the other has sums at both ends of the range. That of `quadX`: a third command has no raw sum of
--- +infinity, and yet two that treating changes, and one over 1, so that all are lowered. Assumes nothing.
+-- +infinity, and yet two that treating changes, and one over 1, so that all are lowered. And `fitting` by itself rules out document 01's "all motors at the
+-- floor", in each of the three mixes. Assumes nothing.
 use mathlib.Core.Path.{_≡_, refl, sym, _∙_, subst}
 use mathlib.Core.Bool.{Bool, true, false, not, _&&_}
 use mathlib.Core.List.{List, [], _∷_}
 use Prim.Native.Nat.{ℕ}
+use native.Mathlib.Omega.{arith}
 use lib.Dec.{T, T-not}
 use lib.Pow.{pow-pos}
 use lib.IntN.{ℤ}
 use lib.Signed.{leZ, ≤ℤ-refl}
-use lib.ListN.{getD}
-use lib.Ieee.{Float, nan, inf, binary32, fits, add, mul, lt, neg, ofBits}
+use lib.ListN.{getD, replicate}
+use lib.Ieee.{Float, nan, inf, binary32, fits, round, add, mul, lt, eq, neg, ofBits}
 use lib.Ieee.Fits.{and-i, and-l, and-r}
 use lib.Ieee.Scale.{finite}
 use Rattle.binary32.specs.Arithmetic.{_+f_, 0f, 1f}
 use Rattle.binary32.specs.Whole.{negative, magnitude, over, under, wholeOf}
+use Rattle.binary32.specs.Rounding.{rounding}
 use Rattle.binary32.specs.Range.{exactSum, SumWithin}
 use Rattle.binary32.proofs.Magnitude.{Finite, finite-number}
 use Rattle.binary32.proofs.Integers.{own-pair, rounding-rounded}
@@ -26,7 +29,7 @@ use Rattle.rules.specs.Command.{roll, pitch, yaw, lifted, collective, de
 use Rattle.rules.specs.Extremes.{larger, walked, best, largest}
 use Rattle.rules.specs.Plain.{rawSum, rawSums}
 use Rattle.rules.specs.Priority.{yawGroup, rollPitchGroup}
-use Rattle.rules.specs.Promises.{Each, Fits, FitsBothOrders, NotInfinity}
+use Rattle.rules.specs.Promises.{Each, Fits, FitsBothOrders, NotInfinity, ThrustFloorKeeps, PriorityKeeps, AirmodeKeeps}
 use Rattle.rules.proofs.Lists.{each-map}
 
 -- ---- the commands, a table of bit patterns
@@ -160,6 +163,32 @@ Reach row end = Each (λ s. exactSum (s .first) (s .second) ≡ wholeOf binary32
 reach-the-ends : Reach M4 1f × Reach M1 (floor at-the-ends)
 unfolding sumsAt M1 M4 at-the-ends add mul neg lt ofBits exactSum wholeOf over under negative magnitude treated clamped limited lifted quadRows delta yawGroup rollPitchGroup
 reach-the-ends = ((refl, (refl, (refl, (refl, tt)))), (refl, (refl, (refl, (refl, tt)))))
+
+-- ---- all motors at the floor do not keep what is promised of the second command: its M4 is to be at 1
+
+floors : List Float
+floors = replicate 4 (floor at-the-ends)
+
+-- 0.25 is not the exact sum of M4, rounded
+too-low : Each (λ s. T (not (eq (floor at-the-ends) (rounding binary32 (exactSum (s .first) (s .second)) 1)))) (sumsAt at-the-ends M4)
+unfolding sumsAt M4 at-the-ends add mul neg lt eq ofBits round rounding exactSum wholeOf over under negative magnitude treated clamped limited lifted quadRows delta yawGroup rollPitchGroup
+too-low = (tt, (tt, (tt, (tt, tt))))
+
+abbrev Kept : (List Row → List Float → Float → Float → List Float → Type 0) → Type 0
+Kept Keeps = Keeps quadRows (torque at-the-ends) (thrust at-the-ends) (floor at-the-ends) floors
+
+thrust-floor-gives-more : (scale : Float) → Kept (λ rows torque thrust floor motors. ThrustFloorKeeps rows torque thrust floor motors scale) → ⊥
+unfolding commands floors sumsAt M4 deltas quadRows
+thrust-floor-gives-more scale keeps =
+    subst (λ b. T (not b)) (keeps .fitting (they-fit .1 .0 .thrust-floor) .0 .1 .1 .1 .0 .once) (too-low .0)
+
+airmode-gives-more : Kept AirmodeKeeps → ⊥
+unfolding commands floors sumsAt M4 deltas quadRows
+airmode-gives-more keeps = subst (λ b. T (not b)) (keeps .fitting (they-fit .1 .0 .airmode) .1 .1 .1 .0 .once) (too-low .1 .0)
+
+priority-gives-more : Kept PriorityKeeps → ⊥
+unfolding commands floors sumsAt M4 quadRows
+priority-gives-more keeps = subst (λ b. T (not b)) (keeps .nearest (they-fit .1 .0 .priority) 3 (omega arith) .once) (too-low .1 .1 .0)
 
 -- ---- the first has sums that are no f32
 

@@ -7,10 +7,11 @@ use Rattle.quad.specs.declared.QuadMixer.{QuadMixer}
 use Rattle.entries.specs.declared.command.Command.{Command}
 use Rattle.sheet.specs.declared.Verdict.{Verdict}
 use Rattle.sheet.proofs.Determined.{verdict-tells}
-use Rattle.sheet_run.specs.Run.{Called, Ran}
+use Rattle.sheet_run.specs.Run.{Gives, Ran}
+use Rattle.sheet_run.proofs.Methods.{gives-called}
 
-pub call-determined : (q : QuadMixer) (c : Command) → Determined (Called q c)
-call-determined q c r p h k = equal-determined r p (h .is) (k .is)
+pub call-determined : (q : QuadMixer) (c : Command) → Determined (Gives q c)
+call-determined q c r p h k = equal-determined r p (gives-called q c r h) (gives-called q c p k)
 
 pub run-determined : (s : List ℕ) (before : QuadMixer) (out : List ℕ) (v w : Verdict) (after other : QuadMixer) (written put : List ℕ)
     → Ran s before out v after written → Ran s before out w other put → (v ≡ w) × (after ≡ other) × (written ≡ put)

@@ -1,4 +1,5 @@
 -- Every answer of a run keeps what its mix promises: the numbers of a sheet are f32s, whatever its bytes. Assumes nothing.
+use mathlib.Core.Path.{refl}
 use mathlib.Core.Bool.{Bool, true, false, cond}
 use mathlib.Core.List.{List, [], _∷_}
 use Prim.Native.Nat.{ℕ, zero, suc}
@@ -14,7 +15,7 @@ use Rattle.entries.specs.declared.command.Command.{Command}
 use Rattle.entries.specs.declared.command.Command.the-variants.{Plain, ThrustFloor, Priority, Airmode, RotorOut}
 use Rattle.entries.specs.Layout.{kindOf, rotorOf, numberIn}
 use Rattle.entries.specs.Entry.{failedOf, commandOf, commandAt}
-use Rattle.sheet_run.specs.Run.{called, Keeps, EachKeeps, commandsFrom}
+use Rattle.sheet_run.specs.Run.{called, Gives, EachKeeps, commandsFrom}
 
 -- ---- a command of f32s
 
@@ -35,13 +36,13 @@ three-held r p y hr hp hy (suc zero) = hp
 three-held r p y hr hp hy (suc (suc zero)) = hy
 three-held r p y hr hp hy (suc (suc (suc k))) = nan-fits binary32
 
-called-keeps : (q : QuadMixer) (c : Command) → HeldIn c → Keeps c (called q c .«last_motors») (called q c .«last_torque_scale»)
-unfolding called Keeps HeldIn
-called-keeps q (Plain t r p y) h = plain-keeps (r ∷ p ∷ y ∷ []) t (three-held r p y (h .1) (h .2) (h .3)) (h .0)
-called-keeps q (ThrustFloor t r p y floor) h = thrust-floor-keeps quadRows (r ∷ p ∷ y ∷ []) t floor (h .0) (h .1)
-called-keeps q (Priority t r p y floor) h = priority-keeps quadRows (r ∷ p ∷ y ∷ []) t floor (h .0) (h .1)
-called-keeps q (Airmode t r p y floor) h = airmode-keeps quadRows (r ∷ p ∷ y ∷ []) t floor (h .0) (h .1)
-called-keeps q (RotorOut failed t r p y floor) h = rotor-out-keeps failed (r ∷ p ∷ y ∷ []) t floor h
+called-gives : (q : QuadMixer) (c : Command) → HeldIn c → Gives q c (called q c)
+unfolding called Gives HeldIn
+called-gives q (Plain t r p y) h = record { is = refl; keeps = plain-keeps (r ∷ p ∷ y ∷ []) t (three-held r p y (h .1) (h .2) (h .3)) (h .0) }
+called-gives q (ThrustFloor t r p y floor) h = record { is = refl; keeps = thrust-floor-keeps quadRows (r ∷ p ∷ y ∷ []) t floor (h .0) (h .1) }
+called-gives q (Priority t r p y floor) h = record { is = refl; keeps = priority-keeps quadRows (r ∷ p ∷ y ∷ []) t floor (h .0) (h .1) }
+called-gives q (Airmode t r p y floor) h = record { is = refl; keeps = airmode-keeps quadRows (r ∷ p ∷ y ∷ []) t floor (h .0) (h .1) }
+called-gives q (RotorOut failed t r p y floor) h = record { is = refl; keeps = rotor-out-keeps failed (r ∷ p ∷ y ∷ []) t floor h }
 
 -- ---- a sheet's commands
 
@@ -72,4 +73,4 @@ command-held s i =
 pub each-keeps : (s : List ℕ) (q : QuadMixer) (i left : ℕ) → EachKeeps q (commandsFrom s i left)
 unfolding EachKeeps commandsFrom
 each-keeps s q i zero = tt
-each-keeps s q i (suc left) = (called-keeps q (commandAt s i) (command-held s i), each-keeps s (called q (commandAt s i)) (suc i) left)
+each-keeps s q i (suc left) = (called-gives q (commandAt s i) (command-held s i), each-keeps s (called q (commandAt s i)) (suc i) left)

@@ -4,36 +4,28 @@ use mathlib.Core.Path.{_≡_, refl, ap}
 use mathlib.Core.List.{List, [], _∷_, _++_}
 use Prim.Native.Nat.{ℕ}
 use Rattle.quad.specs.declared.QuadMixer.{QuadMixer}
-use Rattle.quad.specs.Mixes.{PlainGives, ThrustFloorGives, PriorityGives, AirmodeGives, RotorOutGives}
 use Rattle.entries.specs.declared.command.Command.{Command}
 use Rattle.entries.specs.declared.command.Command.the-variants.{Plain, ThrustFloor, Priority, Airmode, RotorOut}
-use Rattle.sheet_run.specs.Run.{called, ran, answerOf, answersOf}
+use Rattle.sheet_run.specs.Run.{called, Gives, ran, answerOf, answersOf}
 
--- the contract of the method of a command, as `quad/src/lib.rt` has it: r is what it gives
-pub Method : QuadMixer → Command → QuadMixer → Type 0
-Method q (Plain t r p y) = PlainGives q (r ∷ p ∷ y ∷ []) t
-Method q (ThrustFloor t r p y floor) = ThrustFloorGives q (r ∷ p ∷ y ∷ []) t floor
-Method q (Priority t r p y floor) = PriorityGives q (r ∷ p ∷ y ∷ []) t floor
-Method q (Airmode t r p y floor) = AirmodeGives q (r ∷ p ∷ y ∷ []) t floor
-Method q (RotorOut failed t r p y floor) = RotorOutGives q failed (r ∷ p ∷ y ∷ []) t floor
+-- what a method gives is the state of the rule
+pub gives-called : (q : QuadMixer) (c : Command) (r : QuadMixer) → Gives q c r → r ≡ called q c
+unfolding called Gives
+gives-called q (Plain t r p y) last m = m .is
+gives-called q (ThrustFloor t r p y floor) last m = m .is
+gives-called q (Priority t r p y floor) last m = m .is
+gives-called q (Airmode t r p y floor) last m = m .is
+gives-called q (RotorOut failed t r p y floor) last m = m .is
 
 -- a state is reached by calling the methods of commands in their order, and these are the bytes of the states on the way
 pub data Reached : QuadMixer → List Command → QuadMixer → List ℕ → Type 0 where
   none : {q : QuadMixer} → Reached q [] q []
-  more : {q r last : QuadMixer} {c : Command} {cs : List Command} {bytes : List ℕ} → Method q c r → Reached r cs last bytes → Reached q (c ∷ cs) last (answerOf r ++ bytes)
-
-method-called : (q : QuadMixer) (c : Command) (r : QuadMixer) → Method q c r → r ≡ called q c
-unfolding called Method
-method-called q (Plain t r p y) last m = m .is
-method-called q (ThrustFloor t r p y floor) last m = m .is
-method-called q (Priority t r p y floor) last m = m .is
-method-called q (Airmode t r p y floor) last m = m .is
-method-called q (RotorOut failed t r p y floor) last m = m .is
+  more : {q r last : QuadMixer} {c : Command} {cs : List Command} {bytes : List ℕ} → Gives q c r → Reached r cs last bytes → Reached q (c ∷ cs) last (answerOf r ++ bytes)
 
 pub reached-ran : {q last : QuadMixer} {cs : List Command} {bytes : List ℕ} → Reached q cs last bytes → (last ≡ ran q cs) × (bytes ≡ answersOf q cs)
 unfolding ran answersOf
 reached-ran none = (refl, refl)
 reached-ran (more {q} {r} {c} m rest) =
-    let is = method-called q c r m in
+    let is = gives-called q c r m in
     let after = reached-ran rest in
     (rw (← is) (after .0), rw (← is) (ap (λ (b : List ℕ). answerOf r ++ b) (after .1)))

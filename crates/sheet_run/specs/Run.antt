@@ -7,18 +7,10 @@ use Prim.Native.Nat.{ℕ, zero, suc, _*_}
 use lib.Dec.{ltb, eqb}
 use lib.ListN.{length}
 use lib.Ieee.{Float, binary32, toBits}
-use Rattle.binary32.specs.Arithmetic.{1f}
 use Rattle.wire.specs.Bytes.{bytesOf, writeAt}
-use Rattle.rules.specs.Rows.{quadRows}
-use Rattle.rules.specs.Plain.{plainMotors}
-use Rattle.rules.specs.ThrustFloor.{thrustFloorMotors, thrustFloorScale}
-use Rattle.rules.specs.Priority.{priorityMotors}
-use Rattle.rules.specs.Airmode.{airmodeMotors}
-use Rattle.rules.specs.RotorOut.{rotorOutMotors}
-use Rattle.rules.specs.Promises.{PlainKeeps, ThrustFloorKeeps, PriorityKeeps, AirmodeKeeps, RotorOutKeeps}
 use Rattle.rules.specs.Refusals.{accepted, shortOutput, given, Told, alone, atEntry}
 use Rattle.quad.specs.declared.QuadMixer.{QuadMixer}
-use Rattle.quad.specs.State.{state}
+use Rattle.quad.specs.Mixes.{afterPlain, afterThrustFloor, afterPriority, afterAirmode, afterRotorOut, PlainGives, ThrustFloorGives, PriorityGives, AirmodeGives, RotorOutGives}
 use Rattle.entries.specs.declared.command.Command.{Command}
 use Rattle.entries.specs.declared.command.Command.the-variants.{Plain, ThrustFloor, Priority, Airmode, RotorOut}
 use Rattle.entries.specs.Layout.{countOf, answerSize}
@@ -28,24 +20,21 @@ use Rattle.sheet.specs.Table.{judged, toldBy}
 
 -- ---- one command
 
--- the state after the call of a command's mix, and what that mix promises
+-- the state after the call of a command's mix
 unfoldable pub called : QuadMixer → Command → QuadMixer
-called q (Plain t r p y) = state (plainMotors quadRows (r ∷ p ∷ y ∷ []) t) (q .«last_torque_scale»)
-called q (ThrustFloor t r p y floor) = state (thrustFloorMotors quadRows (r ∷ p ∷ y ∷ []) t floor) (thrustFloorScale quadRows (r ∷ p ∷ y ∷ []) t floor)
-called q (Priority t r p y floor) = state (priorityMotors quadRows (r ∷ p ∷ y ∷ []) t floor) (q .«last_torque_scale»)
-called q (Airmode t r p y floor) = state (airmodeMotors quadRows (r ∷ p ∷ y ∷ []) t floor) (q .«last_torque_scale»)
-called q (RotorOut failed t r p y floor) = state (rotorOutMotors failed (r ∷ p ∷ y ∷ []) t floor) 1f
+called q (Plain t r p y) = afterPlain q (r ∷ p ∷ y ∷ []) t
+called q (ThrustFloor t r p y floor) = afterThrustFloor q (r ∷ p ∷ y ∷ []) t floor
+called q (Priority t r p y floor) = afterPriority q (r ∷ p ∷ y ∷ []) t floor
+called q (Airmode t r p y floor) = afterAirmode q (r ∷ p ∷ y ∷ []) t floor
+called q (RotorOut failed t r p y floor) = afterRotorOut q failed (r ∷ p ∷ y ∷ []) t floor
 
-unfoldable pub Keeps : Command → List Float → Float → Type 0
-Keeps (Plain t r p y) motors scale = PlainKeeps (r ∷ p ∷ y ∷ []) t motors
-Keeps (ThrustFloor t r p y floor) motors scale = ThrustFloorKeeps quadRows (r ∷ p ∷ y ∷ []) t floor motors scale
-Keeps (Priority t r p y floor) motors scale = PriorityKeeps quadRows (r ∷ p ∷ y ∷ []) t floor motors
-Keeps (Airmode t r p y floor) motors scale = AirmodeKeeps quadRows (r ∷ p ∷ y ∷ []) t floor motors
-Keeps (RotorOut failed t r p y floor) motors scale = RotorOutKeeps failed floor motors
-
-pub record Called (q : QuadMixer) (c : Command) (r : QuadMixer) : Type 0 where
-  pub is : r ≡ called q c
-  pub keeps : Keeps c (r .«last_motors») (r .«last_torque_scale»)
+-- what the mix gives: that state, and its promises of it
+unfoldable pub Gives : QuadMixer → Command → QuadMixer → Type 0
+Gives q (Plain t r p y) = PlainGives q (r ∷ p ∷ y ∷ []) t
+Gives q (ThrustFloor t r p y floor) = ThrustFloorGives q (r ∷ p ∷ y ∷ []) t floor
+Gives q (Priority t r p y floor) = PriorityGives q (r ∷ p ∷ y ∷ []) t floor
+Gives q (Airmode t r p y floor) = AirmodeGives q (r ∷ p ∷ y ∷ []) t floor
+Gives q (RotorOut failed t r p y floor) = RotorOutGives q failed (r ∷ p ∷ y ∷ []) t floor
 
 -- ---- the commands, one after another
 
@@ -65,7 +54,7 @@ ran q (c ∷ cs) = ran (called q c) cs
 -- every call keeps what its mix promises
 unfoldable pub EachKeeps : QuadMixer → List Command → Type 0
 EachKeeps q [] = Unit {0}
-EachKeeps q (c ∷ cs) = Keeps c (called q c .«last_motors») (called q c .«last_torque_scale») × EachKeeps (called q c) cs
+EachKeeps q (c ∷ cs) = Gives q c (called q c) × EachKeeps (called q c) cs
 
 -- ---- the output
 

@@ -9,7 +9,7 @@ ghost use Rattle.wire.specs.Bytes.{bytesOf, writeAt};
 ghost use Rattle.entries.specs.Layout.{countOf, answerSize};
 ghost use Rattle.rules.specs.Refusals.{accepted};
 ghost use Rattle.sheet.specs.Table.{judged, toldBy};
-ghost use Rattle.sheet_run.specs.Run.{Called, answerOf, judgedFor, commandsOf, ran, answersOf, Ran};
+ghost use Rattle.sheet_run.specs.Run.{Gives, answerOf, judgedFor, commandsOf, ran, answersOf, Ran};
 use bits::bits_of;
 use entries::command::Command;
 use entries::command::Entry;
@@ -30,7 +30,7 @@ pub struct Outcome {
 
 // A command as the call of its mix.
 pub fn call(q: QuadMixer, c: Command) -> QuadMixer
-    ensures { λ r. ⌜ Called q c r ⌝ }
+    ensures { λ r. ⌜ Gives q c r ⌝ }
 {
     match c {
         Command::Plain {

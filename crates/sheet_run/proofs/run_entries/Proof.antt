@@ -14,6 +14,7 @@ use Rattle.entries.specs.Entry.{commandAt}
 use Rattle.entries.proofs.Answers.{decoded-command}
 use Rattle.sheet.proofs.Accepted.{Accepted, is-accepted, never-refused}
 use Rattle.sheet_run.specs.Run.{called, commandsFrom, commandsOf, ran, answerOf, answersOf}
+use Rattle.sheet_run.proofs.Methods.{gives-called}
 use Rattle.sheet_run.proofs.Walk.{ran-more, written-more, ran-all, written-all}
 use Rattle.sheet_run.proofs.run_entries.Statement.{statement}
 use Rattle.sheet_run.proofs.run_entries.Tie as tie
@@ -46,7 +47,7 @@ known c = is-accepted _ (c .before .before .before .pre .0)
 next : (c : tie.After-call Inv-loop μ-loop) → let at = c .before .before .before .before .before .before .before in c .call .result ≡ called (at .loop .q) (commandAt (at .before .before .before .args .sheet .now) (at .loop .i))
 next c =
     let entry = c .before .before in
-    c .call .ensures .is ∙ ap (called _) (decoded-command (rw (entry .e .given .1) at (entry .before .before .read-entry .ensures)) .1)
+    gives-called _ _ _ (c .call .ensures) ∙ ap (called _) (decoded-command (rw (entry .e .given .1) at (entry .before .before .read-entry .ensures)) .1)
 
 -- the output with its answer
 written : (c : tie.After-write-answer Inv-loop μ-loop)
