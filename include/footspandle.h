@@ -223,9 +223,9 @@ void footspandle_motors_to_torque_signs(const float motors[4], float sums[3]);
 /* ---- MixerN: a frame of up to eight rotors ---------------------------------------------------- */
 
 /*
- * A MixerN is its matrix, eight rows of four floats, and a count, which the caller keeps. Nothing but
- * the caller reads the count: all eight rows are used, whatever it is, so that a row of a rotor that
- * is not there should be four zeros.
+ * A MixerN is its matrix, eight rows of four floats, and a count, which the caller keeps. No mix reads
+ * the count: all eight rows are used, whatever it is, so that a row of a rotor that is not there should
+ * be four zeros.
  */
 
 /* Copies the rows as they are, NaNs among them, and answers the count n, a count over 8 as 8. */

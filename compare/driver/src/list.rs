@@ -29,6 +29,7 @@ mod lent_rows;
 mod list_frame;
 mod list_quad;
 mod list_sheets;
+mod quad_calls;
 #[allow(dead_code)]
 mod rust;
 mod sheet;

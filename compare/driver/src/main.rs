@@ -22,6 +22,7 @@ mod inputs;
 mod lent_rows;
 mod ours;
 mod ours_sheet;
+mod quad_calls;
 mod quad_table;
 mod rows;
 mod rust;

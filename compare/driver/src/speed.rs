@@ -16,6 +16,7 @@ mod frames;
 mod inputs;
 #[allow(dead_code)]
 mod lent_rows;
+mod quad_calls;
 #[allow(dead_code)]
 mod rust;
 #[allow(dead_code)]

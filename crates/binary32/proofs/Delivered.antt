@@ -15,7 +15,7 @@ use Rattle.binary32.specs.Whole.{negative, magnitude}
 use Rattle.binary32.specs.Rounding.{rounding}
 use Rattle.binary32.specs.Nearest.{distance, bound, Nearest, TiesToEven, RoundsTo}
 use Rattle.binary32.proofs.Magnitude.{Number, Finite, is-finite, finite-number, under-finite, same-number}
-use Rattle.binary32.proofs.Rounded.{Rounded, one-number}
+use Rattle.binary32.proofs.Rounded.{Rounded, one-rounding}
 use Rattle.binary32.proofs.Integers.{Difference, own-pair, rounding-rounded}
 use Rattle.binary32.proofs.LastDigit.{lastDigit, pattern-digit}
 use Rattle.binary32.proofs.NearestSize.{NearestSize, unbounded-nearest}
@@ -117,7 +117,7 @@ delivered-rounded r d C = rounded-toward C d (delivered-toward r C)
 -- ---- so the words determine a number, a zero's sign aside
 
 pub determined : {f : Format} {z y : Float} {w : ℤ} {c : ℕ} → 0 < c → RoundsTo f w c z → RoundsTo f w c y → eq z y ≡ true
-determined {w} C rz ry = one-number (delivered-rounded rz (own-pair w) C) (delivered-rounded ry (own-pair w) C)
+determined {w} C rz ry = one-rounding (delivered-rounded rz (own-pair w) C) (delivered-rounded ry (own-pair w) C)
 
 -- where it is finite, it is a nearest number, and the even one of two
 pub delivered-nearest : {f : Format} {z : Float} {w : ℤ} {c : ℕ} → T (finite z) → RoundsTo f w c z → Nearest f w c z × TiesToEven f w c z

@@ -13,7 +13,7 @@ use lib.Ieee.{Float, Format, eq}
 use Rattle.binary32.specs.Whole.{over, under, wholeOf}
 use Rattle.binary32.specs.Rounding.{rounding}
 use Rattle.binary32.proofs.Order.{same-test}
-use Rattle.binary32.proofs.Rounded.{Rounded, round-positive, round-minus, by-difference, one-number}
+use Rattle.binary32.proofs.Rounded.{Rounded, round-positive, round-minus, by-difference, one-rounding}
 
 abbrev Is : ℤ → ℕ → ℕ → Type 0
 Is (pos a) p n = p ≡ a + n
@@ -139,4 +139,4 @@ rounding-rounded {z = pos a} {p} {n} f c h C = by-difference (round-positive f a
 rounding-rounded {z = negsuc a} {p} {n} f c h C = by-difference (round-minus f (suc a) c C) p n (omega arith)
 
 pub is-rounding : {f : Format} {x : Float} {z : ℤ} {p n c : ℕ} → Rounded f x p n c → Difference z p n → 0 < c → eq x (rounding f z c) ≡ true
-is-rounding {f} {c} hx h C = one-number hx (rounding-rounded f c h C)
+is-rounding {f} {c} hx h C = one-rounding hx (rounding-rounded f c h C)

@@ -95,8 +95,8 @@ own-rounding {f} {x} h = go (negative x) refl
 
 -- ---- two roundings of one fraction are one number
 
-pub one-number : {f : Format} {z w : Float} {p n c : ℕ} → Rounded f z p n c → Rounded f w p n c → eq z w ≡ true
-one-number {f} {z} {w} hz hw =
+pub one-rounding : {f : Format} {z w : Float} {p n c : ℕ} → Rounded f z p n c → Rounded f w p n c → eq z w ≡ true
+one-rounding {f} {z} {w} hz hw =
     eq-whole (hz .number) (hw .number)
     ∙ eq-eqb (over f z + under f w) (over f w + under f z) (omega (arith, hz .above ∙ sym (hw .above), hz .below ∙ sym (hw .below)))
 

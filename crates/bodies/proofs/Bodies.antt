@@ -1,14 +1,14 @@
 -- The bodies of an accepted sheet: each lies within it and has 16 or 20 bytes, and after the contents they tile it. Assumes nothing.
-use mathlib.Core.Path.{_≡_, refl, ap, _∙_}
+use mathlib.Core.Path.{_≡_, refl, sym, ap, _∙_}
 use mathlib.Core.Bool.{Bool, true, false, cond, _&&_, false≢true}
-use mathlib.Core.List.{List, [], _∷_, _++_}
+use mathlib.Core.List.{List, [], _++_}
 use mathlib.Core.Logic.{_⊎_, inl, inr}
 use Prim.Native.Nat.{ℕ, zero, suc, _+_, _-_, _≤_, _<_}
 use native.Mathlib.Nat.{add-zero, add-suc, suc-add}
 use native.Mathlib.Numerals.{add-one}
 use native.Mathlib.Omega.{arith}
 use lib.Dec.{ltb, eqb}
-use lib.ListN.{length, take, drop, length-drop, drop-of-length-le}
+use lib.ListN.{length, take, drop, length-drop, drop-of-length-le, take-append-drop}
 use lib.Seq.{length-take-le, drop-drop}
 use borrow.Author.Tests.{lt-ltb, le-ltb, eq-eqb, ltb-true, eqb-true}
 use Rattle.rules.specs.Refusals.{accepted}
@@ -58,11 +58,6 @@ unfoldable pub bodiesFrom : List ℕ → ℕ → ℕ → List ℕ
 bodiesFrom s i zero = []
 bodiesFrom s i (suc left) = bodyOf s i ++ bodiesFrom s (suc i) left
 
-cut : (n : ℕ) (l : List ℕ) → l ≡ take n l ++ drop n l
-cut zero l = refl
-cut (suc n) [] = refl
-cut (suc n) (b ∷ l) = ap (λ (r : List ℕ). b ∷ r) (cut n l)
-
 rest-tiled : (s : List ℕ) → Accepted s → (left i : ℕ) → i + left ≡ countOf s → drop (bodyAt s i) s ≡ bodiesFrom s i left
 unfolding bodiesFrom bodyOf
 rest-tiled s known zero i e = drop-of-length-le s {i = bodyAt s i} (let all : i ≡ countOf s = rw add-zero at e in let end = known .ends in rw all (omega arith))
@@ -70,11 +65,11 @@ rest-tiled s known (suc left) i e =
     let under : i < countOf s = omega arith in
     let next = rest-tiled s known left (suc i) (rw (suc-add, ← add-suc) e) in
     let size = bodySize (kindOf s i) in
-    rw (known .entries i under .offset, ← next, ← add-one i, body-next, ← drop-drop) (cut size (drop (bodyAt s i) s))
+    rw (known .entries i under .offset, ← next, ← add-one i, body-next, ← drop-drop) (sym (take-append-drop size (drop (bodyAt s i) s)))
 
 -- the contents, then the bodies, are the sheet
 pub tiled : (s : List ℕ) → Accepted s → s ≡ take (entryAt (countOf s)) s ++ bodiesFrom s 0 (countOf s)
-tiled s known = cut (entryAt (countOf s)) s ∙ ap (λ (l : List ℕ). take (entryAt (countOf s)) s ++ l) (rw body-first at (rest-tiled s known (countOf s) 0 (omega arith)))
+tiled s known = sym (take-append-drop (entryAt (countOf s)) s) ∙ ap (λ (l : List ℕ). take (entryAt (countOf s)) s ++ l) (rw body-first at (rest-tiled s known (countOf s) 0 (omega arith)))
 
 -- ---- what is handed back
 

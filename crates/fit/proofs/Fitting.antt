@@ -71,11 +71,12 @@ motor-fitting floor b d hf fb fd w = go (lt small d) (lt d (neg small)) refl ref
         (ap (lt ((b -f floor) /f neg d)) one-is-unit ∙ enough-room hb hf (neg-finite hd) (under-small hd g) (omega (arith, over-neg binary32 d, under-neg binary32 d)))
     go false false e g = refl
 
-Held : List Float → Type 0
-Held xs = (k : ℕ) → T (fits binary32 (getD xs k nan))
+-- each of them is an f32
+abbrev Floats : List Float → Type 0
+Floats xs = (k : ℕ) → T (fits binary32 (getD xs k nan))
 
-walk-fitting : (floor : Float) (bs ds : List Float) → Finite binary32 floor → Held bs → Held ds → EachMotor (SumWithin floor 1f) bs ds → walk floor 1f bs ds ≡ 1f
-unfolding walk Held
+walk-fitting : (floor : Float) (bs ds : List Float) → Finite binary32 floor → Floats bs → Floats ds → EachMotor (SumWithin floor 1f) bs ds → walk floor 1f bs ds ≡ 1f
+unfolding walk
 walk-fitting floor [] ds hf fb fd w = refl
 walk-fitting floor (b ∷ bs) [] hf fb fd w = refl
 walk-fitting floor (b ∷ bs) (d ∷ ds) hf fb fd w =
@@ -86,7 +87,7 @@ pub one-settles : settled 1f ≡ 1f
 unfolding settled lt ofBits
 one-settles = refl
 
-pub scale-fitting : (floor : Float) (bs ds : List Float) → Finite binary32 floor → ((k : ℕ) → T (fits binary32 (getD bs k nan))) → ((k : ℕ) → T (fits binary32 (getD ds k nan)))
+pub scale-fitting : (floor : Float) (bs ds : List Float) → Finite binary32 floor → Floats bs → Floats ds
     → EachMotor (SumWithin floor 1f) bs ds → fitScale floor bs ds ≡ 1f
-unfolding fitScale Held
+unfolding fitScale
 scale-fitting floor bs ds hf fb fd w = ap settled (walk-fitting floor bs ds hf fb fd w) ∙ one-settles

@@ -4,7 +4,7 @@
 // Follows relay-mix-quad's QuadMixer (Apache-2.0, see NOTICE); changed: written in Rattle with contracts; the state is a run of floats; a mix returns nothing, since the
 // motors that it answers are the first four floats afterwards.
 //
-// Each function takes the state apart, calls the one of `quad` or `sheet_run` that does it by value, and writes the five floats back. What is proved of those
+// Each mix, and the run, takes the state apart, calls the one of `quad` or `sheet_run` that does it by value, and writes the five floats back; the two readers read its floats. What is proved of those
 // stands on these too: `FloatsOf` says that the floats are those of a state that a contract of theirs holds of.
 use quad::QuadMixer;
 use sheet::Verdict;

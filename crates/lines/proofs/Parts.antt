@@ -1,16 +1,16 @@
 -- The laws of a part of what is printed: how many bytes it has at most, and that parts which are written one after the other are one part. Assumes nothing.
 use mathlib.Core.Path.{_≡_, refl, sym, _∙_}
 use mathlib.Core.Bool.{Bool, true, false, cond}
-use mathlib.Core.List.{List, [], _++_, append-nil}
+use mathlib.Core.List.{List, [], _++_}
 use Prim.Native.Nat.{ℕ, zero, suc, _+_, _-_, _*_, _/_, _^_, _≤_, _<_}
-use native.Mathlib.Nat.{pow-succ', add-zero}
+use native.Mathlib.Nat.{pow-succ'}
 use native.Mathlib.Numerals.{add-one}
 use native.Mathlib.Omega.{arith}
 use lib.Dec.{ltb}
-use lib.ListN.{length, length-append, take-append-drop}
+use lib.ListN.{length, length-append}
 use borrow.Author.Tests.{lt-ltb}
 use Rattle.wire.specs.Bytes.{writeAt}
-use Rattle.wire.proofs.LittleEndian.{writeAt-fits, writeAt-append, writeAt-length}
+use Rattle.wire.proofs.LittleEndian.{writeAt-append, writeAt-length, writeAt-nothing}
 use Rattle.text.specs.Digits.{hexOf, decimalWithin, decimalOf}
 use Rattle.lines.specs.Lines.{lineOf, linesFrom, Written, Put}
 
@@ -67,9 +67,8 @@ put-hex bits h e =
 -- nothing is written by doing nothing
 pub put-nothing : {before : List ℕ} {at : ℕ} → at ≤ length before → Put 0 [] before at before at
 put-nothing {before} {at} h =
-    let end : at + 0 ≤ length before = omega arith in
     record {
-      text = sym (writeAt-fits before at [] end ∙ rw (append-nil, add-zero) (take-append-drop at before));
+      text = sym (writeAt-nothing before at);
       place = omega arith;
       few = omega arith;
       inside = h;

@@ -28,6 +28,6 @@ shift idle lowest highest = cond (lt lowest idle) (idle -f lowest) (cond (lt 1f 
 unfoldable pub shifted : Float → List Float → List Float
 shifted idle xs = map (λ x. floorClamp (x +f shift idle (least xs) (largest xs)) idle) xs
 
--- "collective is t itself, even under the idle floor. Deltas as in 2."
+-- "collective is t itself, even under the idle floor. Deltas as in 2." Thrust and idle are limited first ('Treating the numbers'; 000, 332-333).
 unfoldable pub airmodeMotors : List Row → List Float → Float → Float → List Float
 airmodeMotors rows torque thrust idle = shifted (limited idle) (unshifted (limited idle) (limited thrust) (deltas rows torque))

@@ -10,6 +10,7 @@ use Rattle.rules.specs.Plain.{rawSums, lowerLimited}
 abbrev pub maxRotors : ℕ
 maxRotors = 8
 
--- "Each sum is treated separately, then the plain shift, then limiting to 0..1."
+-- "Each sum is treated separately, then the plain shift, then limiting to 0..1." The last two are plain's own end: limiting to 0..1 is the floor clamp at +0
+-- (`clamp-at-zero` in proofs/Clamp). Thrust and torque are treated, as in plain.
 unfoldable pub frameMotors : List Row → List Float → Float → List Float
 frameMotors rows torque thrust = lowerLimited (map treated (rawSums rows torque thrust))

@@ -12,10 +12,11 @@ use Rattle.rules.specs.Extremes.{largest}
 unfoldable pub rawSum : Float → Float → Float → Float → Row → Float
 rawSum t r p y row = thrustOf row *f t +f rollOf row *f r +f pitchOf row *f p +f yawOf row *f y
 
+-- of treated thrust and torque ('Treating the numbers'; 000, 139-142)
 unfoldable pub rawSums : List Row → List Float → Float → List Float
 rawSums rows torque thrust = map (rawSum (treated thrust) (roll torque) (pitch torque) (yaw torque)) rows
 
--- "If the largest is over 1, largest - 1 is taken from all": one number, given the largest
+-- "If the largest is over 1, largest - 1 is taken from all": one number, given the largest. It is what 'Any airframe' calls "the plain shift".
 unfoldable pub loweredBy : Float → Float → Float
 loweredBy most x = cond (lt 1f most) (x -f (most -f 1f)) x
 

@@ -1,5 +1,5 @@
--- What the mixes promise of their motors (demand 3, and document 01's claims on plain and on any airframe), in words that each is said in once. Here `motors` and `scale` are what a
--- function answers, and a frame is any list of rows. Definitions only.
+-- What the mixes promise of their motors (demand 3, whose text is in docs/STATEMENT.md, and document 01's claims on plain and on any airframe), in words that each is said in once.
+-- Here `motors` and `scale` are what a function answers, and a frame is any list of rows. Definitions only; the quotations are demand 3's and document 01's.
 use mathlib.Core.Path.{_≡_}
 use mathlib.Core.Bool.{true, false, not}
 use mathlib.Core.List.{List, [], _∷_, map}

@@ -61,7 +61,7 @@ motorWithout f floor s bs ds i = cond (eqb i f) 0f (floorClamp (treated (getD bs
 unfoldable pub motorsWithout : ℕ → Float → List Float → List Float → List Float
 motorsWithout f floor bs ds = map (motorWithout f floor (fitScale floor bs ds) bs ds) (0 ∷ 1 ∷ 2 ∷ 3 ∷ [])
 
--- ---- both
+-- ---- both: thrust and floor are limited first ('Treating the numbers'; 000, 423-424)
 
 unfoldable pub rotorOutMotors : ℕ → List Float → Float → Float → List Float
 rotorOutMotors f torque thrust floor =

@@ -12,7 +12,7 @@ summed column s [] ms = s
 summed column s (row ∷ rows) [] = s
 summed column s (row ∷ rows) (m ∷ ms) = summed column (s +f column row *f m) rows ms
 
--- roll, pitch and yaw, each sum from +0 on
+-- roll, pitch and yaw, each sum from +0 on, as the Rust begins it (000, 606-614, 753 on), which settles the sign of a zero
 unfoldable pub torqueOf : List Row → List Float → List Float
 torqueOf rows motors = summed rollOf 0f rows motors ∷ summed pitchOf 0f rows motors ∷ summed yawOf 0f rows motors ∷ []
 

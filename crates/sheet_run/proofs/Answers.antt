@@ -1,12 +1,10 @@
 -- How the output grows: float after float within an answer, and answer after answer. Assumes nothing.
 use mathlib.Core.Path.{_≡_, refl, sym, ap}
-use mathlib.Core.Bool.{Bool, true, false, cond}
 use mathlib.Core.List.{List, [], _∷_, _++_, append-nil, append-assoc}
 use Prim.Native.Nat.{ℕ, _+_, _*_, _≤_}
-use native.Mathlib.Nat.{zero-add, add-zero}
+use native.Mathlib.Nat.{zero-add}
 use native.Mathlib.Omega.{arith}
-use lib.Dec.{leb}
-use lib.ListN.{length, getD, take, drop, length-append, take-append-drop}
+use lib.ListN.{length, getD, length-append}
 use lib.Ieee.{Float, nan, binary32, toBits}
 use Rattle.wire.specs.Bytes.{bytesOf, writeAt}
 use Rattle.wire.proofs.LittleEndian.{bytesOf-length, writeAt-append}
@@ -46,15 +44,6 @@ float-written out xs x h =
     let size : 0 + length (floatBytes xs) ≡ 4 * length xs = rw (zero-add, floats-length) in
     let room : 0 + length (floatBytes xs) + length (bytesOf 4 (toBits binary32 x)) ≤ length out = rw (bytesOf-length, size) h in
     rw (← size, floats-more) (writeAt-append out 0 (floatBytes xs) (bytesOf 4 (toBits binary32 x)) room)
-
--- no bytes, written anywhere
-pub nothing-written : (out : List ℕ) (at : ℕ) → writeAt out at [] ≡ out
-unfolding writeAt
-nothing-written out at = go (leb (at + 0) (length out))
-  where
-    go : (t : Bool) → cond t (take at out ++ [] ++ drop (at + 0) out) out ≡ out
-    go true = rw (append-nil, add-zero, take-append-drop)
-    go false = refl
 
 -- ---- an answer
 

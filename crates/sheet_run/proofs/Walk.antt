@@ -6,12 +6,12 @@ use native.Mathlib.Numerals.{add-one}
 use native.Mathlib.Omega.{arith}
 use lib.ListN.{length}
 use Rattle.wire.specs.Bytes.{writeAt}
-use Rattle.wire.proofs.LittleEndian.{writeAt-append}
+use Rattle.wire.proofs.LittleEndian.{writeAt-append, writeAt-nothing}
 use Rattle.quad.specs.declared.QuadMixer.{QuadMixer}
 use Rattle.entries.specs.Entry.{commandAt}
 use Rattle.sheet.proofs.Walk.{one-less}
 use Rattle.sheet_run.specs.Run.{called, commandsFrom, ran, answerOf, answersOf}
-use Rattle.sheet_run.proofs.Answers.{answer-length, answers-length, nothing-written}
+use Rattle.sheet_run.proofs.Answers.{answer-length, answers-length}
 
 -- as many commands as entries
 pub commands-length : (s : List ℕ) (i left : ℕ) → length (commandsFrom s i left) ≡ left
@@ -54,4 +54,4 @@ module _ (s : List ℕ) (q : QuadMixer) (i k : ℕ) (last : i ≡ k) where
 
   pub written-all : (out : List ℕ) → writeAt out (20 * i) (answersOf q (commandsFrom s i (k - i))) ≡ out
   unfolding answersOf
-  written-all out = rw none-left (nothing-written out (20 * i))
+  written-all out = rw none-left (writeAt-nothing out (20 * i))

@@ -2,13 +2,13 @@
 -- to every part of the bytes, and what is read after a write. Assumes nothing.
 use mathlib.Core.Path.{_≡_, refl, sym, ap, _∙_}
 use mathlib.Core.Bool.{Bool, true, false, cond}
-use mathlib.Core.List.{List, [], _∷_, _++_, append-assoc}
+use mathlib.Core.List.{List, [], _∷_, _++_, append-nil, append-assoc}
 use Prim.Native.Nat.{ℕ, zero, suc, _+_, _-_, _*_, _/_, _%_, _^_, _≤_, _<_}
 use native.Mathlib.Nat.{zero-add, add-zero, suc-add, add-suc, add-assoc, one-mul, mul-zero, mul-assoc, mul-comm, mul-add, div-one, div-div-eq-div-mul, mod-mod-of-dvd, dvd-mul-right, pow-succ', not-suc-le-zero, le-of-suc-le-suc, add-sub-of-le}
 use native.Mathlib.Omega.{arith}
 use lib.Arith.{lt-one, mod-mul, digits-div}
 use lib.Dec.{leb, leb·suc-suc}
-use lib.ListN.{length, getD, take, drop, set, length-append, length-drop, drop-of-length-le}
+use lib.ListN.{length, getD, take, drop, set, length-append, length-drop, drop-of-length-le, take-append-drop}
 use lib.Seq.{sets, sets-eq, length-take-le, take-nil, take-at, drop-at, take-append-seam, take-take, drop-drop}
 use borrow.Author.Tests.{le-leb, lt-leb, leb-true}
 use Rattle.wire.specs.Bytes.{littleEndian, bytesOf, readAt, writeAt}
@@ -80,11 +80,6 @@ readAt-one (b ∷ s) (suc at) = readAt-one s at
 pub readAt-past : (k : ℕ) (s : List ℕ) (at : ℕ) → length s ≤ at → readAt k s at ≡ 0
 unfolding readAt littleEndian
 readAt-past k s at h = rw (drop-of-length-le s h, take-nil)
-
--- reading in the part from n on
-pub readAt-drop : (k : ℕ) (s : List ℕ) (n at : ℕ) → readAt k (drop n s) at ≡ readAt k s (n + at)
-unfolding readAt
-readAt-drop k s n at = rw drop-drop
 
 -- ---- writing at a place
 
@@ -178,6 +173,15 @@ writeAt-part (b ∷ out) (suc n) at bs h = rw (suc-add, writeAt-cons, writeAt-pa
 pub writeAt-bytesOf-short : (k x : ℕ) (out : List ℕ) (at : ℕ) → length out < at + k → writeAt out at (bytesOf k x) ≡ out
 writeAt-bytesOf-short k x out at h = writeAt-short out at (bytesOf k x) (rw bytesOf-length h)
 
+-- no bytes change nothing
+pub writeAt-nothing : (out : List ℕ) (at : ℕ) → writeAt out at [] ≡ out
+unfolding writeAt
+writeAt-nothing out at = go (leb (at + 0) (length out))
+  where
+    go : (t : Bool) → cond t (take at out ++ [] ++ drop (at + 0) out) out ≡ out
+    go true = rw (append-nil, add-zero, take-append-drop)
+    go false = refl
+
 -- a number of j + k bytes that fit is written by its low j bytes and then the k bytes above them
 pub writeAt-bytesOf-add : (j k x : ℕ) (out : List ℕ) (at : ℕ) → at + (j + k) ≤ length out → writeAt (writeAt out at (bytesOf j (x % 256 ^ j))) (at + j) (bytesOf k (x / 256 ^ j)) ≡ writeAt out at (bytesOf (j + k) x)
 writeAt-bytesOf-add j k x out at h =
@@ -187,7 +191,7 @@ writeAt-bytesOf-add j k x out at h =
     let room : at + length low + length high ≤ length out = rw (e, bytesOf-length, add-assoc) h in
     rw (bytesOf-low, bytesOf-add) (ap (λ (n : ℕ). writeAt (writeAt out at low) (at + n) high) (sym e) ∙ writeAt-append out at low high room)
 
--- ---- reading after a write
+-- ---- reading after a write. No proof cites these: they show that reading and writing, as they are defined, go together
 
 -- a number that was written where it fits is read back
 pub readAt-written : (k : ℕ) {x : ℕ} (out : List ℕ) (at : ℕ) → x < 256 ^ k → at + k ≤ length out → readAt k (writeAt out at (bytesOf k x)) at ≡ x

@@ -22,6 +22,8 @@ mod damaged;
 mod frames;
 #[path = "../../../../compare/driver/src/inputs.rs"]
 mod inputs;
+#[path = "../../../../compare/driver/src/quad_calls.rs"]
+mod quad_calls;
 #[path = "../../../../compare/driver/src/rows.rs"]
 mod rows;
 #[path = "../../../../compare/driver/src/sheet.rs"]

@@ -57,28 +57,7 @@ macro_rules! side {
 
             // ---- the quad
 
-            /// What the two readers give.
-            pub fn state(mixer: &QuadMixer) -> State {
-                let [a, b, c, d] = mixer.last_motors();
-                [a, b, c, d, mixer.last_torque_scale()]
-            }
-
-            /// The motors that a call returns. It changes the mixer.
-            pub fn mix(mixer: &mut QuadMixer, call: &Call) -> [f32; 4] {
-                let Call {
-                    torque,
-                    thrust,
-                    floor,
-                    ..
-                } = *call;
-                match call.mix {
-                    Mix::Plain => mixer.mix(torque, thrust),
-                    Mix::ThrustFloor => mixer.mix_thrust_floor(torque, thrust, floor),
-                    Mix::Priority => mixer.mix_priority(torque, thrust, floor),
-                    Mix::Airmode => mixer.mix_airmode(torque, thrust, floor),
-                    Mix::RotorOut => mixer.mix_rotor_out(call.rotor, torque, thrust, floor),
-                }
-            }
+            crate::quad_calls::quad_calls!();
 
             /// Fresh states: made when the program runs, and by the compiler.
             pub fn fresh() -> [State; 2] {
