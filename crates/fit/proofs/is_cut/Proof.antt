@@ -30,15 +30,12 @@ mul-limit-of-2 c = scaled-fits (c .before .before .loop .i) (length (now (c .bef
 loop-again : tie.Need-loop-again Inv-loop μ-loop
 loop-again c =
     let at-loop = c .before .before .before .before .before in
-    let start = at-loop .before .before .before .before in
-    let base = now (start .args .base) in
-    let delta = now (start .args .delta) in
-    let floor = start .args .floor in
-    let i = at-loop .loop .i in
-    let inv = at-loop .loop .inv in (
+    let args = at-loop .before .before .before .before .args in
+    let inv = at-loop .loop .inv in
+    let next = cut-next (at-loop .loop .cut) (args .floor) (now (args .base)) (now (args .delta)) (at-loop .loop .i) (omega arith) (omega arith) in (
       inv .0,
       omega arith,
-      rw (c .either .ensures, c .before .limit-of .ensures) (cut-next (at-loop .loop .cut) floor base delta i (omega arith) (omega arith)) ∙ inv .2,
+      rw (c .either .ensures, c .before .limit-of .ensures) next ∙ inv .2,
     )
 
 returns : tie.Need-returns Inv-loop μ-loop

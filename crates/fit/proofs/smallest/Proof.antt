@@ -27,20 +27,8 @@ loop-holds c = (c .shorter .ensures, omega arith, refl, one-held)
 mul-tighten : tie.Need-mul-tighten Inv-loop μ-loop
 mul-tighten c = scaled-fits (c .before .loop .i) (length (now (c .before .before .before .before .before .args .base))) 4 (omega arith) (c .before .before .before .before .before .good .0 .1)
 
-shared-slice-read-tighten : tie.Need-shared-slice-read-tighten Inv-loop μ-loop
-shared-slice-read-tighten c = omega arith
-
 mul-tighten-2 : tie.Need-mul-tighten-2 Inv-loop μ-loop
 mul-tighten-2 c = scaled-fits (c .before .before .loop .i) (length (now (c .before .before .before .before .before .before .args .delta))) 4 (omega arith) (c .before .before .before .before .before .before .good .1 .0 .1)
-
-shared-slice-read-tighten-2 : tie.Need-shared-slice-read-tighten-2 Inv-loop μ-loop
-shared-slice-read-tighten-2 c = omega arith
-
-add-i : tie.Need-add-i Inv-loop μ-loop
-add-i c = omega arith
-
-loop-less : tie.Need-loop-less Inv-loop μ-loop
-loop-less c = omega arith
 
 loop-again : tie.Need-loop-again Inv-loop μ-loop
 loop-again c =
@@ -79,12 +67,12 @@ smallest-spec =
     (λ c κs. search needs)
     loop-holds
     mul-tighten
-    shared-slice-read-tighten
+    (λ c. omega arith)
     mul-tighten-2
-    shared-slice-read-tighten-2
+    (λ c. omega arith)
     (λ c κs. not-above (c .before .before .before .loop .inv .3))
-    add-i
-    loop-less
+    (λ c. omega arith)
+    (λ c. omega arith)
     loop-again
     (λ c κs. search needs)
     returns)

@@ -39,12 +39,6 @@ add-end c =
     let size : c .body-size .result ≤ 20 = rw (c .body-size .ensures) (size-most _) in
     omega (arith, at .loop .inv .1, body-most s (at .loop .i), at .before .before .count .ensures)
 
-add-i : tie.Need-add-i Inv-loop μ-loop
-add-i c = omega arith
-
-loop-less : tie.Need-loop-less Inv-loop μ-loop
-loop-less c = omega arith
-
 loop-again : tie.Need-loop-again Inv-loop μ-loop
 loop-again c =
     let entry = c .before .before in
@@ -92,8 +86,8 @@ check-entries-spec =
     (λ c κs. search needs)
     (λ c κs. search needs)
     add-end
-    add-i
-    loop-less
+    (λ c. omega arith)
+    (λ c. omega arith)
     loop-again
     returns-2
     returns-3)
