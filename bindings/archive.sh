@@ -1,4 +1,5 @@
-# Sourced by the scripts of bindings/: builds the archive, and compares what a program prints.
+# Sourced by the scripts of bindings/ and by examples/hard_roll: builds the archive, and compares what a
+# program prints.
 #
 # It takes from the script that sources it: `root`, the repository; and `die`, which ends the script
 # with what is wrong.

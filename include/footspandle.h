@@ -73,7 +73,7 @@ extern "C" {
 #define FOOTSPANDLE_MATRIX_FLOATS 32  /* floats of those rows */
 #define FOOTSPANDLE_HEX_ROTORS 6      /* rotors of hex_x; four floats each */
 #define FOOTSPANDLE_OCTO_ROTORS 8     /* rotors of octo_coax; four floats each */
-#define FOOTSPANDLE_MAX_OUTPUTS 64    /* outputs of one footspandle_mixer_mix, at most */
+#define FOOTSPANDLE_MAX_OUTPUTS 64    /* outputs of one mix by lent rows, at most */
 #define FOOTSPANDLE_MAX_ENTRIES 64    /* entries of a sheet, at most */
 #define FOOTSPANDLE_ANSWER_BYTES 20   /* bytes of an entry's answer in the output of a run */
 #define FOOTSPANDLE_OUTPUT_BYTES 1280 /* room for 64 answers: such an output is never too short */
@@ -270,7 +270,27 @@ float footspandle_clamp01(float x);
 uint32_t footspandle_mixer_mix(const float *rows, size_t rows_length, const footspandle_wrench *w, float *out, size_t out_length);
 
 /*
- * Writes the six rows of hex_x, as footspandle_mixer_mix takes them, each number as the nearest float:
+ * Thrust-floor for any frame: keeps the thrust, and gives up torque by one scale over all rotors. Rows
+ * and lengths are as in footspandle_mixer_mix, but a row's thrust is not read: every rotor has the same
+ * collective, the limited thrust, or the floor where the thrust is under it. Each torque is treated, so
+ * that a NaN or an infinity asks for none on its axis. The scale is found as in
+ * footspandle_quad_mix_thrust_floor, over all rotors; each output is the collective plus the scaled
+ * delta, held to floor..1.
+ * Answers 0, and then every output and *scale are written. Promised, for every row, wrench and floor:
+ * every output lies from the floor to 1. A command that fits is not cut: each output is the exact sum
+ * of collective and delta, rounded once, zero's sign aside, so that no float is nearer to that sum,
+ * and the scale is 1. A larger delta never gets a smaller output. The scale lies in 0..1 (it may be
+ * -0). With the quad's four rows, outputs and scale are those of footspandle_quad_mix_thrust_floor, by
+ * bits. Of the lift, the mean of the outputs, nothing is promised: that it stays, up to rounding, where
+ * the deltas cancel, as hex_x's and octo_coax's do, is arithmetic and not proved.
+ * What footspandle_mixer_mix refuses with 10 is refused so here, and the outputs and *scale stay as they
+ * were. No outputs with no rows are accepted: nothing is written to out, and the scale is 1.
+ * While the call runs, out holds the deltas for a time (rule 3 of what the caller owes).
+ */
+uint32_t footspandle_mixer_mix_thrust_floor(const float *rows, size_t rows_length, const footspandle_wrench *w, float floor, float *out, size_t out_length, float *scale);
+
+/*
+ * Writes the six rows of hex_x, as the two mixes above take them, each number as the nearest float:
  * thrust 1, and roll, pitch, yaw -1,0,1; 1,0,-1; 0.5,-0.866,1; -0.5,0.866,-1; -0.5,-0.866,-1;
  * 0.5,0.866,1.
  */
@@ -287,6 +307,15 @@ void footspandle_mix_hex_x(const footspandle_wrench *w, float out[6]);
 
 /* The same by the rows of octo_coax. */
 void footspandle_mix_octo_coax(const footspandle_wrench *w, float out[8]);
+
+/*
+ * footspandle_mixer_mix_thrust_floor by the rows of hex_x, which cannot be refused: answers the scale,
+ * and what is promised there is promised here.
+ */
+float footspandle_mix_thrust_floor_hex_x(const footspandle_wrench *w, float floor, float out[6]);
+
+/* The same by the rows of octo_coax. */
+float footspandle_mix_thrust_floor_octo_coax(const footspandle_wrench *w, float floor, float out[8]);
 
 /* ---- the command sheet ------------------------------------------------------------------------ */
 

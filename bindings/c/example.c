@@ -1,8 +1,8 @@
 /*
  * A crew's flight in small, through include/footspandle.h: a fresh state, the five mixes on one
- * command, a lost rotor, other frames, rows that are refused, a command sheet with its answers, and a
- * sheet that is refused. It calls every function of the header. `bindings/c/run` builds it, runs it and
- * compares what it prints with example.txt.
+ * command, a lost rotor, other frames, a hard roll on them, rows that are refused, a command sheet with
+ * its answers, and a sheet that is refused. It calls every function of the header. `bindings/c/run`
+ * builds it, runs it and compares what it prints with example.txt.
  */
 #include <inttypes.h>
 #include <math.h>
@@ -105,6 +105,43 @@ static void fly_rows(void) {
     show("-0.5, 2, NaN held", held, 3);
 }
 
+/* The mean of the motors. */
+static double lift(const float *motors, size_t count) {
+    double sum = 0;
+    size_t i;
+    for (i = 0; i < count; i++) {
+        sum += motors[i];
+    }
+    return sum / (double)count;
+}
+
+/* A hard roll, without and with thrust-floor. Its scale stands after the motors. */
+static void roll_hard(void) {
+    const footspandle_wrench wrench = {0.75f, 0.5f, 0.0f, 0.0f};
+    const float floor = 0.125f;
+    float rows[4 * FOOTSPANDLE_HEX_ROTORS];
+    float alone[FOOTSPANDLE_HEX_ROTORS];
+    float hex[FOOTSPANDLE_HEX_ROTORS + 1];
+    float lent[FOOTSPANDLE_HEX_ROTORS + 1];
+    float octo[FOOTSPANDLE_OCTO_ROTORS + 1];
+    uint32_t number;
+
+    footspandle_mix_hex_x(&wrench, alone);
+    show("hex_x", alone, 6);
+    hex[6] = footspandle_mix_thrust_floor_hex_x(&wrench, floor, hex);
+    show("hex_x, thrust-floor", hex, 7);
+    printf("the lift             %.6f without it, %.6f with it\n", lift(alone, 6), lift(hex, 6));
+    footspandle_hex_x(rows);
+    number = footspandle_mixer_mix_thrust_floor(rows, 24, &wrench, floor, lent, 6, &lent[6]);
+    printf("hex_x's rows, lent   answered %" PRIu32 ", outputs and scale %s\n", number,
+           memcmp(lent, hex, sizeof hex) == 0 ? "the same" : "others");
+    number = footspandle_mixer_mix_thrust_floor(rows, 23, &wrench, floor, lent, 6, &lent[6]);
+    printf("one float too few    answered %" PRIu32 ", outputs and scale %s\n", number,
+           memcmp(lent, hex, sizeof hex) == 0 ? "as they were" : "changed");
+    octo[8] = footspandle_mix_thrust_floor_octo_coax(&wrench, floor, octo);
+    show("octo, thrust-floor", octo, 9);
+}
+
 /* ---- the command sheet ---- */
 
 /*
@@ -171,6 +208,8 @@ int main(void) {
     printf("other frames, thrust 0.5, roll 0.25\n");
     fly_matrix();
     fly_rows();
+    printf("a hard roll, thrust 0.75, roll 0.5, floor 0.125: motors, then thrust-floor's scale\n");
+    roll_hard();
     run_sheet();
     return 0;
 }

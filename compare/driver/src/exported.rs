@@ -64,6 +64,25 @@ extern "C" {
     pub fn footspandle_octo_coax(rows: *mut [f32; 32]);
     pub fn footspandle_mix_hex_x(wrench: *const Wrench, out: *mut [f32; 6]);
     pub fn footspandle_mix_octo_coax(wrench: *const Wrench, out: *mut [f32; 8]);
+    pub fn footspandle_mixer_mix_thrust_floor(
+        rows: *const f32,
+        rows_len: usize,
+        wrench: *const Wrench,
+        floor: f32,
+        out: *mut f32,
+        out_len: usize,
+        scale: *mut f32,
+    ) -> u32;
+    pub fn footspandle_mix_thrust_floor_hex_x(
+        wrench: *const Wrench,
+        floor: f32,
+        out: *mut [f32; 6],
+    ) -> f32;
+    pub fn footspandle_mix_thrust_floor_octo_coax(
+        wrench: *const Wrench,
+        floor: f32,
+        out: *mut [f32; 8],
+    ) -> f32;
 
     pub fn footspandle_sheet_check(sheet: *const u8, n: usize, entry: *mut u32) -> u32;
     pub fn footspandle_sheet_body(sheet: *const u8, n: usize, i: usize, at: *mut usize) -> usize;

@@ -110,12 +110,17 @@ fn frame(random: &mut Random, rows: &Rows) -> Frame {
 
 /// A wrench of any kind.
 pub fn wrench(random: &mut Random) -> Wrench {
+    wrench_and_floor(random).0
+}
+
+/// A wrench of any kind, and the floor of the same command.
+pub fn wrench_and_floor(random: &mut Random) -> (Wrench, f32) {
     let Command {
         torque: [roll, pitch, yaw],
         thrust,
-        ..
+        floor,
     } = command(random);
-    [thrust, roll, pitch, yaw]
+    ([thrust, roll, pitch, yaw], floor)
 }
 
 // ---- all together

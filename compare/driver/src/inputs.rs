@@ -19,6 +19,21 @@ pub fn seeded<M>(kinds: &str, seed: u64, cases: u64, make: M) -> Inputs<M> {
     }
 }
 
+impl<M> Inputs<M> {
+    /// The same cases, and of each the part that is asked for.
+    pub fn map<I, J>(self, part: impl Fn(I) -> J) -> Inputs<impl Fn(u64) -> J>
+    where
+        M: Fn(u64) -> I,
+    {
+        let make = self.make;
+        Inputs {
+            kinds: self.kinds,
+            cases: self.cases,
+            make: move |n| part(make(n)),
+        }
+    }
+}
+
 /// The one case of a function that takes nothing.
 pub fn once() -> Inputs<impl Fn(u64) -> [f32; 0]> {
     Inputs {
@@ -253,9 +268,12 @@ impl Hex for Fit {
     }
 }
 
-/// A delta whose limit is near 1 or near another simple fraction, or that is near small.
-fn delta_at_the_limit(random: &mut Random, base: f32, floor: f32) -> f32 {
-    let part = random.one_of(&[1.0, 1.0, 1.0, 2.0, 4.0, 0.5]);
+/// What a delta may be of the room that a base leaves: a limit is then near 1 or near another simple
+/// fraction.
+pub const PARTS: [f32; 6] = [1.0, 1.0, 1.0, 2.0, 4.0, 0.5];
+
+/// A delta near such a part of the room above or below a base, or near small.
+pub fn delta_at_the_limit(random: &mut Random, base: f32, floor: f32, part: f32) -> f32 {
     let delta = match random.below(5) {
         0 | 1 => (1.0 - base) * part,
         2 | 3 => (floor - base) * part,
@@ -283,7 +301,8 @@ fn fit(random: &mut Random, bases: usize, deltas: usize) -> Fit {
                 let near = [0.0, -0.0, 0.5, 1.0, floor, thrust, 1.0 - floor];
                 let b = random.one_of(&near);
                 let b = random.near(b);
-                (b, delta_at_the_limit(random, b, floor))
+                let part = random.one_of(&PARTS);
+                (b, delta_at_the_limit(random, b, floor, part))
             }
             _ => (thrust, random.flight() + random.flight()),
         };

@@ -1,8 +1,9 @@
-//! The inputs of a mix of 001 as ours takes it: rows lent as one run, and outputs lent.
+//! The inputs of a mix of 001 as ours takes it: rows lent as one run, and outputs lent. Thrust-floor over
+//! rows takes the same, and a floor.
 
 use crate::commands::COMMAND_KINDS;
 use crate::compare::Hex;
-use crate::frames::{fill_any, fill_rotors, wrench, Wrench};
+use crate::frames::{fill_any, fill_rotors, wrench_and_floor, Wrench};
 use crate::inputs::{seeded, Inputs, Random};
 
 /// The most outputs of a mix, and the most that are lent here, where more are to be refused.
@@ -21,8 +22,22 @@ pub struct Lent {
 }
 
 impl Lent {
+    /// So many numbers and outputs, and a wrench. The numbers are zeros yet.
+    pub fn new(numbers: usize, outputs: usize, wrench: Wrench) -> Lent {
+        Lent {
+            run: [0.0; ROOM],
+            numbers,
+            outputs,
+            wrench,
+        }
+    }
+
     pub fn rows(&self) -> &[f32] {
         &self.run[..self.numbers]
+    }
+
+    pub fn rows_mut(&mut self) -> &mut [f32] {
+        &mut self.run[..self.numbers]
     }
 }
 
@@ -38,18 +53,18 @@ pub type After = (u32, [f32; MOST_LENT]);
 
 /// Rows of rotors or of any kind, and a wrench of any kind.
 pub fn lent_of(random: &mut Random, numbers: usize, outputs: usize) -> Lent {
-    let mut run = [0.0; ROOM];
-    let wrench = wrench(random);
+    floored_of(random, numbers, outputs).0
+}
+
+/// The same, and the floor of the wrench's command.
+pub fn floored_of(random: &mut Random, numbers: usize, outputs: usize) -> (Lent, f32) {
+    let (wrench, floor) = wrench_and_floor(random);
+    let mut lent = Lent::new(numbers, outputs, wrench);
     match random.below(2) {
-        0 => fill_any(random, &mut run[..numbers]),
-        _ => fill_rotors(random, &mut run[..numbers]),
+        0 => fill_any(random, lent.rows_mut()),
+        _ => fill_rotors(random, lent.rows_mut()),
     }
-    Lent {
-        run,
-        numbers,
-        outputs,
-        wrench,
-    }
+    (lent, floor)
 }
 
 /// What the kinds of rows and wrenches are.
@@ -67,13 +82,15 @@ pub fn lent_rows() -> Inputs<impl Fn(u64) -> Lent> {
     })
 }
 
+/// How a case is made, from the numbers of rows and the outputs that are lent.
+pub type Made<I> = fn(&mut Random, usize, usize) -> I;
+
 /// Lengths that are refused, and some that are not: up to 80 outputs, with four numbers for each, up
 /// to 8 more or fewer, or any count of numbers.
-pub fn lent_at_any_length() -> Inputs<impl Fn(u64) -> Lent> {
-    const SEED: u64 = 18;
+pub fn at_any_length<I>(seed: u64, made: Made<I>) -> Inputs<impl Fn(u64) -> I> {
     let kinds = "0 to 80 outputs; four numbers for each, up to 8 more or fewer, or any number";
-    seeded(kinds, SEED, 1 << 24, |n| {
-        let mut random = Random::new(SEED, n);
+    seeded(kinds, seed, 1 << 24, move |n| {
+        let mut random = Random::new(seed, n);
         let outputs = n as usize % (MOST_LENT + 1);
         let off = random.below(9) as usize;
         let numbers = match random.below(4) {
@@ -82,6 +99,10 @@ pub fn lent_at_any_length() -> Inputs<impl Fn(u64) -> Lent> {
             2 => (4 * outputs).saturating_sub(off),
             _ => random.below(ROOM as u64 + 1) as usize,
         };
-        lent_of(&mut random, numbers, outputs)
+        made(&mut random, numbers, outputs)
     })
+}
+
+pub fn lent_at_any_length() -> Inputs<impl Fn(u64) -> Lent> {
+    at_any_length(18, lent_of)
 }

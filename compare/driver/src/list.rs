@@ -1,6 +1,6 @@
-//! Writes the list that the program crates/replay replays: inputs, and the Rust's answers to them; and
-//! the list of crates/sheets, for which see list_sheets.rs. There is nothing of ours in this program.
-//! compare/run --list builds and starts it.
+//! Writes the list that the program crates/replay replays: inputs, and the Rust's answers to them, or a
+//! model's where the Rust has none, for which see list_floor.rs; and the list of crates/sheets, for which
+//! see list_sheets.rs. There is nothing of ours in this program. compare/run --list builds and starts it.
 //!
 //!   list ROOT   writes under ROOT/crates replay/stdin, the list, and replay/stdout, what `replay` is to
 //!               print; sheets/stdin and sheets/stdout; and under ROOT/examples, beside each sheet,
@@ -20,12 +20,16 @@ mod commands;
 #[allow(dead_code)]
 mod compare;
 mod damaged;
+mod floor_model;
+#[allow(dead_code)]
+mod floor_rows;
 #[allow(dead_code)]
 mod frames;
 #[allow(dead_code)]
 mod inputs;
 #[allow(dead_code)]
 mod lent_rows;
+mod list_floor;
 mod list_frame;
 mod list_quad;
 mod list_sheets;
@@ -91,6 +95,7 @@ fn list() -> List {
     list.add("solve3, rotor-out", 8, 256, rotor_out_systems(), solve3);
     list_quad::add_quad(&mut list);
     list_frame::add_frames(&mut list);
+    list_floor::add_floors(&mut list);
     list
 }
 

@@ -17,7 +17,7 @@ use crate::frames::{
     frame_calls, frame_motors, wrenches, Frame, Rows, Wrench, ANY_ROWS, ROTOR_ROWS,
 };
 use crate::inputs::{seeded, Inputs, Random};
-use crate::lent_rows::{lent_kinds, lent_of, Lent};
+use crate::lent_rows::{lent_kinds, lent_of, Lent, Made};
 use crate::rust::{self, bits};
 use crate::special::{special_fours, TOP};
 use crate::{words, List, Record};
@@ -34,7 +34,7 @@ pub fn add_frames(list: &mut List) {
     }
     for outputs in OUTPUTS {
         let name = format!("Mixer::mix of 001, {outputs} outputs");
-        let inputs = lent_for(outputs);
+        let inputs = lent_for(&lent_kinds(), SEED, outputs, lent_of);
         list.add(&name, 30, inputs.cases, inputs, lent_mix);
     }
     add_wrenches(list, "hex_x, mix", 31, |w| {
@@ -48,10 +48,11 @@ pub fn add_frames(list: &mut List) {
 /// The counts that have a kind, from kind 24 on.
 const COUNTS: [usize; 4] = [0, 4, 8, 255];
 
-/// The numbers of outputs that 001's mix is replayed at.
+/// The numbers of outputs that 001's mix is replayed at, and the seed of its inputs.
 const OUTPUTS: [usize; 10] = [0, 1, 2, 3, 4, 6, 8, 16, 63, 64];
+const SEED: u64 = 19;
 
-fn motors(inputs: Vec<u32>, motors: &[f32]) -> Record {
+pub fn motors(inputs: Vec<u32>, motors: &[f32]) -> Record {
     (inputs, motors.iter().map(bits).collect())
 }
 
@@ -93,13 +94,17 @@ fn lent_mix(l: &Lent) -> Record {
     motors(inputs, &out[..l.outputs])
 }
 
-/// Other rows and wrenches at each number of outputs.
-fn lent_for(outputs: usize) -> Inputs<impl Fn(u64) -> Lent> {
-    const SEED: u64 = 19;
+/// Other rows and wrenches at each number of outputs, four numbers for each.
+pub fn lent_for<I>(
+    kinds: &str,
+    seed: u64,
+    outputs: usize,
+    made: Made<I>,
+) -> Inputs<impl Fn(u64) -> I> {
     const CASES: u64 = 12;
-    seeded(&lent_kinds(), SEED, CASES, move |n| {
-        let mut random = Random::new(SEED, CASES * outputs as u64 + n);
-        lent_of(&mut random, 4 * outputs, outputs)
+    seeded(kinds, seed, CASES, move |n| {
+        let mut random = Random::new(seed, CASES * outputs as u64 + n);
+        made(&mut random, 4 * outputs, outputs)
     })
 }
 

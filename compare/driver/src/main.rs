@@ -1,5 +1,5 @@
-//! Compares our functions with the Rust's by running both, and our command sheet with a model of it
-//! over the Rust. compare/run builds and starts it.
+//! Compares our functions with the Rust's by running both, and those that the Rust has not, thrust-floor
+//! over any rows and our command sheet, with a model of each. compare/run builds and starts it.
 //!
 //!   --quick   the first 1024th of every row, and at least 1024 cases where it has as many
 //!   --sheets   the command sheet alone
@@ -16,6 +16,9 @@ mod compare;
 mod damaged;
 mod exported;
 mod findings;
+mod floor_model;
+mod floor_rows;
+mod floor_table;
 mod frame_table;
 mod frames;
 mod inputs;
@@ -33,6 +36,7 @@ mod slips;
 mod special;
 mod table;
 mod wrong;
+mod wrong_floor;
 mod wrong_frame;
 mod wrong_quad;
 mod wrong_sheet;
@@ -70,7 +74,7 @@ fn main() -> ExitCode {
     }
 }
 
-fn joined(tables: [Vec<Row>; 3]) -> Vec<Row> {
+fn joined(tables: [Vec<Row>; 4]) -> Vec<Row> {
     tables.into_iter().flatten().collect()
 }
 
@@ -83,6 +87,7 @@ fn compare_both(only_sheets: bool, quick: bool) -> bool {
         table::table(),
         quad_table::quad_table(),
         frame_table::frame_table(),
+        floor_table::floor_table(),
     ];
     let answers = (!only_sheets).then(|| compare_all(&joined(tables), quick));
     println!("{}", sheets::sheet_kinds());
@@ -101,23 +106,47 @@ fn compare_both(only_sheets: bool, quick: bool) -> bool {
 // ---- wrong on purpose
 
 /// Compares the wrong functions, unless only sheets are asked for, and then the wrong sheet runners.
-/// Says whether each is noticed, and the right sheet runner not.
+/// Says whether each is noticed, and the right ones not.
 fn notice_both(only_sheets: bool, quick: bool) -> bool {
     let tables = [
         wrong::wrong_table(),
         wrong_quad::wrong_quad_table(),
         wrong_frame::wrong_frame_table(),
+        wrong_floor::wrong_floor_table(),
     ];
-    let functions = (!only_sheets).then(|| notice_all(&joined(tables), quick));
-    let (_, falsely) = compare_all(&[wrong_sheet::right_sheet()], quick);
-    let (runners, noticed) = notice_all(&wrong_sheet::wrong_sheet_table(), quick);
-    println!("{runners} wrong sheet runners, {noticed} noticed");
-    let mut good = falsely == 0 && noticed == runners;
-    if let Some((functions, noticed)) = functions {
-        println!("{functions} wrong functions, {noticed} noticed");
-        good &= noticed == functions;
+    let right = wrong_floor::right_floor();
+    let functions = (!only_sheets).then(|| notice(right, &joined(tables), quick));
+    let right = wrong_sheet::right_sheet();
+    let runners = notice(right, &wrong_sheet::wrong_sheet_table(), quick);
+    let sheets_good = runners.show("sheet runners");
+    let functions_good = functions.is_none_or(|functions| functions.show("functions"));
+    sheets_good && functions_good
+}
+
+/// How many wrong ones there are, how many of them differ, and how often the right one does.
+struct Noticed {
+    wrong: usize,
+    noticed: usize,
+    falsely: u64,
+}
+
+/// Compares one with nothing wrong, and then the wrong ones.
+fn notice(right: Row, wrong: &[Row], quick: bool) -> Noticed {
+    let (_, falsely) = compare_all(&[right], quick);
+    let (wrong, noticed) = notice_all(wrong, quick);
+    Noticed {
+        wrong,
+        noticed,
+        falsely,
     }
-    good
+}
+
+impl Noticed {
+    /// Prints the counts, and says whether all wrong ones differ and the right one does not.
+    fn show(&self, named: &str) -> bool {
+        println!("{} wrong {named}, {} noticed", self.wrong, self.noticed);
+        self.noticed == self.wrong && self.falsely == 0
+    }
 }
 
 // ---- findings

@@ -256,3 +256,43 @@ pub fn octo_coax_mix(wrench: &Wrench) -> [f32; 8] {
     unsafe { exported::footspandle_mix_octo_coax(wrench, &mut out) };
     out
 }
+
+// ---- thrust-floor over rows
+
+/// The number that a call answers.
+#[inline]
+pub fn mix_thrust_floor(
+    rows: &[f32],
+    wrench: &Wrench,
+    floor: f32,
+    out: &mut [f32],
+    scale: &mut f32,
+) -> u32 {
+    unsafe {
+        exported::footspandle_mixer_mix_thrust_floor(
+            rows.as_ptr(),
+            rows.len(),
+            wrench,
+            floor,
+            out.as_mut_ptr(),
+            out.len(),
+            scale,
+        )
+    }
+}
+
+/// The motors, and the scale.
+#[inline]
+pub fn hex_x_thrust_floor((wrench, floor): &(Wrench, f32)) -> ([f32; 6], f32) {
+    let mut out = [LENT; 6];
+    let scale = unsafe { exported::footspandle_mix_thrust_floor_hex_x(wrench, *floor, &mut out) };
+    (out, scale)
+}
+
+#[inline]
+pub fn octo_coax_thrust_floor((wrench, floor): &(Wrench, f32)) -> ([f32; 8], f32) {
+    let mut out = [LENT; 8];
+    let scale =
+        unsafe { exported::footspandle_mix_thrust_floor_octo_coax(wrench, *floor, &mut out) };
+    (out, scale)
+}

@@ -1,7 +1,7 @@
-//! Times our functions against the Rust's, on the same commands and in one process. compare/speed
-//! builds and starts it, and says how it is measured.
+//! Times our functions against the Rust's, and those that the Rust has not against our quad's, on the same
+//! commands and in one process. compare/speed builds and starts it, and says how it is measured.
 //!
-//! Exit status 0: every answer is the same by bits, and no ratio that is held to a limit is above it.
+//! Exit status 0: every answer is the right one by bits, and no figure that is held is above its limit.
 
 // Only a part of each of these is used here: the rest is the program compare's.
 #[allow(dead_code)]
@@ -10,6 +10,8 @@ mod commands;
 mod compare;
 #[allow(dead_code)]
 mod exported;
+#[allow(dead_code)]
+mod floor_model;
 #[allow(dead_code)]
 mod frames;
 #[allow(dead_code)]
@@ -35,16 +37,42 @@ use relay_mix_multi::Mixer;
 use relay_mix_quad::MixerN;
 
 use commands::{State, FRESH};
+use floor_model::octo_coax_thrust_floor;
 use frames::{Frame, Wrench};
 use sheet::ANSWER;
-use speed_pair::{fold_bits, folded, pair, side, Line, Side, Timed};
+use speed_pair::{fold_bits, folded, pair, side, unlike, Line, Side, Timed};
 use speed_sets::{Asked, Set, ENTRIES, PART, SETS};
 
 /// How often each part of the commands is timed on each side.
 const ROUNDS: usize = 25;
 
-/// What our time may be of the Rust's.
-const LIMIT: f64 = 1.2;
+/// What ours is timed against, as a line names it and our time by the other's, and what that may be, if
+/// it is held to anything.
+#[derive(Clone, Copy, PartialEq)]
+struct Against {
+    other: &'static str,
+    by: &'static str,
+    limit: Option<f64>,
+}
+
+const RUST: Against = Against {
+    other: "rust",
+    by: "ratio",
+    limit: Some(1.2),
+};
+
+/// Not the Rust's own, but the model of compare/run.
+const MODEL: Against = Against {
+    limit: None,
+    ..RUST
+};
+
+/// Our quad's thrust-floor, where the Rust has none for so many rotors.
+const QUAD: Against = Against {
+    other: "quad",
+    by: "times",
+    limit: Some(3.0),
+};
 
 fn main() -> ExitCode {
     if std::env::args().len() != 1 {
@@ -74,36 +102,50 @@ fn main() -> ExitCode {
     show(&rows)
 }
 
-/// Prints the lines, and says whether no ratio that is held is above the limit.
+/// Prints the lines, and says whether nothing that is held is above its limit.
 fn show(rows: &[Row]) -> ExitCode {
-    let mut worst: f64 = 0.0;
     for row in rows {
-        let [ours, rust] = row.pair.best();
-        let ratio = ours / rust;
+        let [ours, others] = row.pair.best();
+        let Against { other, by, .. } = row.against;
         println!(
-            "{} {} rattle {ours:.2} rust {rust:.2} ratio {ratio:.2}",
-            row.name, row.set
+            "{} {} rattle {ours:.2} {other} {others:.2} {by} {:.2}",
+            row.name,
+            row.set,
+            row.figure()
         );
-        if row.held {
-            worst = worst.max(ratio);
-        }
     }
-    println!("worst ratio {worst:.2}");
-    if worst <= LIMIT {
+    let [ratio, times] = [RUST, QUAD].map(|against| show_worst(rows, against));
+    if ratio && times {
         ExitCode::SUCCESS
     } else {
         ExitCode::FAILURE
     }
 }
 
+/// Prints the worst figure of those that are held to the same, and says whether it is not above the limit.
+fn show_worst(rows: &[Row], against: Against) -> bool {
+    let held = rows.iter().filter(|row| row.against == against);
+    let worst = held.map(Row::figure).fold(0.0, f64::max);
+    println!("worst {} {worst:.2}", against.by);
+    against.limit.is_none_or(|limit| worst <= limit)
+}
+
 // ---- the lines
 
-/// A line: a function, ours and the Rust's, on a set.
+/// A line: a function of ours on a set, and what it is timed against.
 struct Row {
     name: &'static str,
     set: &'static str,
-    held: bool,
+    against: Against,
     pair: Box<dyn Timed>,
+}
+
+impl Row {
+    /// Our time by the other's.
+    fn figure(&self) -> f64 {
+        let [ours, others] = self.pair.best();
+        ours / others
+    }
 }
 
 fn rows(set: &Set) -> Vec<Row> {
@@ -113,10 +155,8 @@ fn rows(set: &Set) -> Vec<Row> {
     use exported as o;
     use speed_rust as r;
     let plain = of(plain(o::footspandle_quad_mix), plain(r::mix));
-    let thrust_floor = of(
-        floored(o::footspandle_quad_mix_thrust_floor),
-        floored(r::mix_thrust_floor),
-    );
+    let quad = floored(o::footspandle_quad_mix_thrust_floor);
+    let thrust_floor = of(Rc::clone(&quad), floored(r::mix_thrust_floor));
     let priority = of(
         floored(o::footspandle_quad_mix_priority),
         floored(r::mix_priority),
@@ -136,21 +176,29 @@ fn rows(set: &Set) -> Vec<Row> {
     let multi8 = of(multi8(o::footspandle_mixer_mix), rust_multi8(r::mixer_mix));
     let runs = [run(o::footspandle_sheet_run), run(r::sheet_run)];
     let sheet64 = pair(&sheets, PART / ENTRIES, runs);
-    let row = |name, held, pair| Row {
+    let eight = |ours| {
+        let sides = [ours, Rc::clone(&quad)];
+        unlike(&commands, PART, sides, model_thrust_floor8())
+    };
+    let thrust_floor8 = eight(thrust_floor8(o::footspandle_mixer_mix_thrust_floor));
+    let thrust_floor_octo = eight(thrust_floor_octo(o::footspandle_mix_thrust_floor_octo_coax));
+    let row = |name, against, pair| Row {
         name,
         set: set.name,
-        held,
+        against,
         pair,
     };
     vec![
-        row("plain", true, plain),
-        row("thrust_floor", true, thrust_floor),
-        row("priority", true, priority),
-        row("airmode", true, airmode),
-        row("rotor_out", true, rotor_out),
-        row("mixer_n", true, mixer_n),
-        row("multi8", true, multi8),
-        row("sheet64", false, sheet64),
+        row("plain", RUST, plain),
+        row("thrust_floor", RUST, thrust_floor),
+        row("priority", RUST, priority),
+        row("airmode", RUST, airmode),
+        row("rotor_out", RUST, rotor_out),
+        row("mixer_n", RUST, mixer_n),
+        row("multi8", RUST, multi8),
+        row("sheet64", MODEL, sheet64),
+        row("thrust_floor8", QUAD, thrust_floor8),
+        row("thrust_floor_octo", QUAD, thrust_floor_octo),
     ]
 }
 
@@ -224,13 +272,47 @@ fn rust_multi8(mix: MixerMix) -> Side<Asked> {
     })
 }
 
+/// Eight motors, and then the scale.
+type Scaled8 = [f32; 9];
+
+type LentThrustFloor =
+    unsafe extern "C" fn(*const f32, usize, *const Wrench, f32, *mut f32, usize, *mut f32) -> u32;
+
+fn thrust_floor8(mix: LentThrustFloor) -> Side<Asked> {
+    let mix = black_box(mix);
+    let run = Line(rust::octo_coax_run());
+    side([0.0; 9], move |memory: &mut Scaled8, c: &Asked| unsafe {
+        let [motors @ .., scale] = memory;
+        let (rows, to) = (run.0.as_ptr(), motors.as_mut_ptr());
+        mix(rows, 32, &c.wrench, c.floor, to, 8, scale);
+    })
+}
+
+type OctoThrustFloor = unsafe extern "C" fn(*const Wrench, f32, *mut [f32; 8]) -> f32;
+
+fn thrust_floor_octo(mix: OctoThrustFloor) -> Side<Asked> {
+    let mix = black_box(mix);
+    side([0.0; 9], move |memory: &mut Scaled8, c: &Asked| unsafe {
+        let [motors @ .., scale] = memory;
+        *scale = mix(&c.wrench, c.floor, motors);
+    })
+}
+
+/// What the two have to answer.
+fn model_thrust_floor8() -> Side<Asked> {
+    side([0.0; 9], |memory: &mut Scaled8, c: &Asked| {
+        let [motors @ .., scale] = memory;
+        (*motors, *scale) = octo_coax_thrust_floor(&(c.wrench, c.floor));
+    })
+}
+
 type Run = unsafe extern "C" fn(*const u8, usize, *mut State, *mut u8, usize, *mut u32) -> u32;
 
 /// The state is folded after every sheet, and the output after the last: that is every output where
 /// the answers are compared, sheet by sheet.
 fn run(run: Run) -> Side<Vec<u8>> {
     let run = black_box(run);
-    Box::new(move |part| {
+    Rc::new(move |part| {
         let (mut state, mut out, mut entry) = (FRESH, [0; ANSWER * ENTRIES], 0);
         let mut fold = 0;
         for sheet in part {

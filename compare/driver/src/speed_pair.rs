@@ -1,15 +1,15 @@
-//! A function of ours and one of the Rust's, timed on the same inputs in turns.
+//! A function of ours and another, timed on the same inputs in turns.
 
 use std::hint::black_box;
 use std::rc::Rc;
 use std::time::{Duration, Instant};
 
 pub trait Timed {
-    /// Whether the two sides' answers are the same by bits, input by input.
+    /// Whether our answers are the right ones by bits, input by input.
     fn agree(&self) -> bool;
-    /// Times every part of the inputs on both sides, on the Rust's first if told so.
-    fn round(&mut self, rust_first: bool);
-    /// Nanoseconds for each call, ours and the Rust's: the best time of each part, added up.
+    /// Times every part of the inputs on both sides, on the other first if told so.
+    fn round(&mut self, other_first: bool);
+    /// Nanoseconds for each call, ours and the other's: the best time of each part, added up.
     fn best(&self) -> [f64; 2];
 }
 
@@ -17,7 +17,7 @@ pub trait Timed {
 pub type Fold = u64;
 
 /// Makes a call for each input, one after another.
-pub type Side<T> = Box<dyn Fn(&[T]) -> Fold>;
+pub type Side<T> = Rc<dyn Fn(&[T]) -> Fold>;
 
 /// Memory that begins a line of the cache, so that what is timed is not where it happens to stand.
 #[repr(align(64))]
@@ -28,7 +28,7 @@ pub fn side<T, const N: usize>(
     first: [f32; N],
     call: impl Fn(&mut [f32; N], &T) + 'static,
 ) -> Side<T> {
-    Box::new(move |part| {
+    Rc::new(move |part| {
         let mut memory = Line(first);
         let mut fold = 0;
         for input in part {
@@ -58,36 +58,59 @@ pub fn fold_bits(fold: Fold, bits: u32) -> Fold {
 struct Pair<T> {
     inputs: Rc<Vec<T>>,
     part: usize,
+    /// Ours, and the one that it is timed against.
     sides: [Side<T>; 2],
+    /// The one whose answers ours have to be, and what those to each part fold to.
+    right: Side<T>,
+    folds: Vec<Fold>,
     best: Vec<[Duration; 2]>,
 }
 
 /// Ours and the Rust's on these inputs, so many of them at a time.
-pub fn pair<T: 'static>(inputs: &Rc<Vec<T>>, part: usize, sides: [Side<T>; 2]) -> Box<dyn Timed> {
+pub fn pair<T: 'static>(
+    inputs: &Rc<Vec<T>>,
+    part: usize,
+    [ours, rust]: [Side<T>; 2],
+) -> Box<dyn Timed> {
+    let right = Rc::clone(&rust);
+    unlike(inputs, part, [ours, rust], right)
+}
+
+/// Ours and another that answers something else: what ours has to answer, a third says.
+pub fn unlike<T: 'static>(
+    inputs: &Rc<Vec<T>>,
+    part: usize,
+    sides: [Side<T>; 2],
+    right: Side<T>,
+) -> Box<dyn Timed> {
+    let folds: Vec<Fold> = inputs.chunks(part).map(|part| right(part)).collect();
     Box::new(Pair {
         inputs: Rc::clone(inputs),
         part,
         sides,
-        best: vec![[Duration::MAX; 2]; inputs.len().div_ceil(part)],
+        right,
+        best: vec![[Duration::MAX; 2]; folds.len()],
+        folds,
     })
 }
 
 impl<T> Timed for Pair<T> {
     fn agree(&self) -> bool {
-        let [ours, rust] = &self.sides;
-        self.inputs.chunks(1).all(|one| ours(one) == rust(one))
+        let (ours, right) = (&self.sides[0], &self.right);
+        self.inputs.chunks(1).all(|one| ours(one) == right(one))
     }
 
-    fn round(&mut self, rust_first: bool) {
-        let turns = if rust_first { [1, 0] } else { [0, 1] };
-        for (part, best) in self.inputs.chunks(self.part).zip(&mut self.best) {
+    fn round(&mut self, other_first: bool) {
+        let turns = if other_first { [1, 0] } else { [0, 1] };
+        let parts = self.inputs.chunks(self.part).zip(&self.folds);
+        for ((part, right), best) in parts.zip(&mut self.best) {
             let mut folds = [0; 2];
             for side in turns {
                 let start = Instant::now();
                 folds[side] = (self.sides[side])(black_box(part));
                 best[side] = best[side].min(start.elapsed());
             }
-            assert_eq!(folds[0], folds[1], "the answers differ");
+            assert_eq!(folds[0], *right, "the answers differ");
         }
     }
 

@@ -7,7 +7,7 @@ use lib.ListN.{length}
 use lib.Ieee.{Float}
 use Rattle.number.specs.Treat.{unitClamp}
 use Rattle.rules.specs.Refusals.{Told}
-use Rattle.rules.specs.Rows.{quadRows, quadXRows, runOf, rowsOf, hexRows, octoRows}
+use Rattle.rules.specs.Rows.{Row, quadRows, quadXRows, runOf, rowsOf, hexRows, octoRows}
 use Rattle.rules.specs.Torque.{torqueOf, achieved}
 use Rattle.rules.proofs.Determined.{Determined, equal-determined}
 use Rattle.frame.specs.declared.MixerN.{MixerN}
@@ -15,10 +15,13 @@ use Rattle.frame.specs.Mixer.{made, Mixed}
 use Rattle.frame.proofs.Determined as frame-determined
 use Rattle.multi.specs.Wrench.{numberOf, Allocated}
 use Rattle.multi.proofs.Determined as multi-determined
+use Rattle.multi_thrust_floor.specs.declared.Answer.{Answer as FloorAnswer}
+use Rattle.multi_thrust_floor.specs.Floored as Floored
+use Rattle.multi_thrust_floor.proofs.Determined as floor-determined
 use Rattle.sheet.specs.Table.{judged, toldBy}
 use Rattle.bodies.specs.Body.{handedBack, handedAt}
 use Rattle.lent.proofs.Determined.{run-floats-determined}
-use Rattle.exported.specs.Passed.{passed, wrench, told, Numbered, RanAs}
+use Rattle.exported.specs.Passed.{passed, wrench, told, Numbered, stored, FlooredAs, RanAs}
 
 -- two numbers that are told alike are the same
 same-told : (n m i j : ℕ) → told n i ≡ told m j → (n ≡ m) × (i ≡ j)
@@ -73,6 +76,28 @@ module _ (x : Float) (run w before : List Float) where
 
   pub mix-octo-coax-determined : Determined (Allocated octoRows (wrench w))
   mix-octo-coax-determined = multi-determined.mix-octo-coax-determined x run before (wrench w)
+
+-- ---- thrust-floor by rows
+
+module _ (run w before : List Float) (floor held : Float) where
+  -- the number, what the outputs are afterwards, and what is stored for a scale
+  pub mixer-mix-thrust-floor-determined : (n m : ℕ) (after other : List Float) (scale stood : Float)
+      → FlooredAs run (wrench w) floor before held n after scale
+      → FlooredAs run (wrench w) floor before held m other stood
+      → (n ≡ m) × (after ≡ other) × (scale ≡ stood)
+  mixer-mix-thrust-floor-determined n m after other scale stood h k =
+      let one = floor-determined.mix-determined (wrench w) floor run before (h .answer) (k .answer) after other (h .mixed) (k .mixed) in (
+        h .number-is ∙ ap Floored.numberOf (one .0) ∙ sym (k .number-is),
+        one .1,
+        h .scale-is ∙ ap (λ (answer : FloorAnswer). stored answer held) (one .0) ∙ sym (k .scale-is),
+      )
+
+  -- the motors, and the scale that is answered
+  pub mix-thrust-floor-determined : (rows : List Row) (motors others : List Float) (scale other : Float)
+      → Floored.Floored rows (wrench w) floor motors scale
+      → Floored.Floored rows (wrench w) floor others other
+      → (motors ≡ others) × (scale ≡ other)
+  mix-thrust-floor-determined rows = floor-determined.floored-determined rows (wrench w) floor
 
 -- ---- the sheet: numbers that are answered, then numbers that are stored
 

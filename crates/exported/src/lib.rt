@@ -8,5 +8,6 @@
 // to as many elements as the parameter's type or the length says; and what is written through one pointer is reached through no other of the same call.
 mod command_sheet;
 mod mixer_n;
+mod multi_floor;
 mod multi_mixer;
 mod quad_mixer;

@@ -8,7 +8,7 @@ ghost use Rattle.multi.specs.Wrench.{numberOf, Allocated};
 ghost use Rattle.exported.specs.Passed.{wrench, Numbered};
 
 // The wrench that four floats are.
-fn wrench(w: &[f32; 4]) -> Wrench
+pub(crate) fn wrench(w: &[f32; 4]) -> Wrench
     ensures { λ r. ⌜ r ≡ wrench (now (w .entry)) ⌝ }
 {
     Wrench {

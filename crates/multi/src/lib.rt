@@ -44,7 +44,7 @@ pub fn clamp01(x: f32) -> f32
 }
 
 // Whether it is refused: over 64 outputs, or floats that are not four for each.
-fn refused(floats: usize, outputs: usize) -> bool
+pub fn refused(floats: usize, outputs: usize) -> bool
     ensures { λ r. ⌜ r ≡ rowsRefused floats outputs ⌝ }
 {
     outputs > MAX_OUTPUTS || floats != 4 * outputs

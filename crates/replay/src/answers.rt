@@ -1,5 +1,5 @@
-// Our answers, kind by kind. One kind more is an arm of `answer` here, in mixes.rt if it is about the quad, or in frames.rt if it is about any frame, and a line in
-// compare/driver/src/list.rs, list_quad.rs or list_frame.rs.
+// Our answers, kind by kind. One kind more is an arm of `answer` here, in mixes.rt if it is about the quad, in frames.rt if it is about any frame, or in floors.rt if it is about
+// thrust-floor by rows, and a line in compare/driver/src/list.rs, list_quad.rs, list_frame.rs or list_floor.rs.
 ghost use Prim.Native.Nat.{_+_, _≤_};
 ghost use lib.ListN.{length};
 use crate::mixes;
@@ -7,8 +7,8 @@ use bits::bits_of;
 use quad::QuadMixer;
 use words::WORDS;
 
-// The most words that the inputs of a kind take: a wrench and 64 rows.
-pub(crate) const INPUTS: usize = 260;
+// The most words that the inputs of a kind take: a wrench, a floor and 64 rows.
+pub(crate) const INPUTS: usize = 261;
 
 // The room for its answers, which are compared as a run of words.
 pub(crate) const ANSWERS: usize = WORDS;

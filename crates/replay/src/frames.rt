@@ -6,6 +6,7 @@ use crate::answers::INPUTS;
 use crate::answers::Ours;
 use crate::answers::told;
 use crate::answers::words_of;
+use crate::floors;
 use frame::MixerN;
 use multi::Answer;
 use multi::Wrench;
@@ -31,12 +32,12 @@ pub(crate) fn answer(head: u32, x: &[f32; INPUTS], state: QuadMixer) -> Ours {
         0x1e40_0104 => lent(state, x, 64),
         0x1f06_0004 => told(words_of(&multi::mix_hex_x(wrench(x))), state),
         0x2008_0004 => told(words_of(&multi::mix_octo_coax(wrench(x))), state),
-        _ => unknown(state),
+        _ => floors::answer(head, x, state),
     }
 }
 
 // No kind has the head.
-fn unknown(state: QuadMixer) -> Ours {
+pub(crate) fn unknown(state: QuadMixer) -> Ours {
     Ours {
         known: false,
         words: [0; ANSWERS],
@@ -82,7 +83,7 @@ fn achieved_wrench(state: QuadMixer, x: &[f32; INPUTS]) -> Ours {
 }
 
 // The first four inputs, as a wrench.
-fn wrench(x: &[f32; INPUTS]) -> Wrench {
+pub(crate) fn wrench(x: &[f32; INPUTS]) -> Wrench {
     Wrench {
         thrust: x[0],
         roll: x[1],

@@ -10,7 +10,7 @@ use wire::read_u32;
 use words::same;
 
 // How many bytes there is room for: more than a list has.
-pub(crate) const ROOM: usize = 524288;
+pub(crate) const ROOM: usize = 1048576;
 
 // How many of the differences are shown.
 const SHOWN: usize = 4;

@@ -25,7 +25,7 @@ pub fn lift(t: f32, floor: f32) -> f32
 }
 
 // What treated torques ask of the motor of one row. Treated: an overflow asks for nothing.
-fn delta(row: [f32; 4], r: f32, p: f32, y: f32) -> f32
+pub fn delta(row: [f32; 4], r: f32, p: f32, y: f32) -> f32
     ensures { λ d. ⌜ d ≡ delta r p y row ⌝ }
 {
     sanitise(row[1] * r + row[2] * p + row[3] * y)

@@ -101,3 +101,17 @@ module _ {A : Type 0} (g : Row → A) (rows : List Float) (before : List A) (fou
   -- the end of it
   pub filled-from-rows : (i : ℕ) → length before ≡ i → filled before (map g (rowsOf rows)) i ≡ map g (rowsOf rows)
   filled-from-rows i e = filled-all before (map g (rowsOf rows)) i e (made-length ∙ e)
+
+-- ---- a run that is being filled with what g makes of each number of its own, where it stands
+
+module _ {A : Type 0} (g : A → A) (before : List A) where
+  -- a turn of the loop: the next place is still as it was
+  pub fill-in-place : (now : List A) (i : ℕ) (d : A) {a : A} → i < length before → now ≡ filled before (map g before) i → a ≡ g (getD now i d)
+      → set now i a ≡ filled before (map g before) (i + 1)
+  fill-in-place now i d h is belongs =
+      let read : getD now i d ≡ getD before i d = ap (λ (l : List A). getD l i d) is ∙ filled-at before (map g before) i d h (omega (arith, length-map before g)) in
+      fill before (map g before) now i d (length-map before g) h is (belongs ∙ ap g read ∙ sym (map-at g d d before i h))
+
+  -- the end of it
+  pub filled-in-place : (i : ℕ) → length before ≡ i → filled before (map g before) i ≡ map g before
+  filled-in-place i e = filled-all before (map g before) i e (length-map before g ∙ e)

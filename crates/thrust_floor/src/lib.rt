@@ -9,7 +9,7 @@ ghost use Rattle.rules.specs.Rows.{quadRows};
 ghost use Rattle.rules.specs.ThrustFloor.{scaledMotor, thrustFloorMotors, thrustFloorScale};
 
 // A motor's command: the collective and its share of the torque.
-fn scaled_motor(floor: f32, base: f32, s: f32, d: f32) -> f32
+pub fn scaled_motor(floor: f32, base: f32, s: f32, d: f32) -> f32
     ensures { λ r. ⌜ r ≡ scaledMotor floor base s d ⌝ }
 {
     clamp_floor(base + s * d, floor)

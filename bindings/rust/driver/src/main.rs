@@ -1,6 +1,6 @@
 //! Compares the two crates of bindings/rust with the Rust that they stand in the place of, function by
-//! function, by bits, a NaN matching any NaN; and the module `sheet` with the model of compare/driver.
-//! bindings/rust/test builds and starts it.
+//! function, by bits, a NaN matching any NaN; the module `thrust_floor` with the Rust's quad; and the
+//! module `sheet` with the model of compare/driver. bindings/rust/test builds and starts it.
 //!
 //!   --wrong   turns a bit of our answers now and then: each function has to be noticed
 //!
@@ -40,6 +40,7 @@ mod rust;
 mod sheet_rows;
 mod sides;
 mod table;
+mod thrust_floor_rows;
 
 use std::process::ExitCode;
 
@@ -57,6 +58,7 @@ fn main() -> ExitCode {
         }
     }
     let mut rows = table::table(wrong);
+    rows.extend(thrust_floor_rows::thrust_floor_rows(wrong));
     rows.extend(sheet_rows::sheet_rows(wrong));
     let good = if wrong {
         let (functions, noticed) = notice_all(&rows, false);

@@ -1,7 +1,8 @@
 //! An autopilot's steps in small, with both crates: a quad's loop that loses a rotor, the same frame as
-//! a `MixerN`, a hex frame, and a command sheet. `bindings/rust/run` builds it, runs it and compares
-//! what it prints with example.txt.
+//! a `MixerN`, a hex frame, a hard roll on it, and a command sheet. `bindings/rust/run` builds it, runs
+//! it and compares what it prints with example.txt.
 
+use relay_mix_multi::thrust_floor::{self, Floored};
 use relay_mix_multi::{hex_x, octo_coax, Mixer, Wrench};
 use relay_mix_quad::{motors_to_torque_signs, sheet, MixerN, QuadMixer};
 
@@ -99,6 +100,37 @@ fn other_frames() {
     show("three rotors", &three.mix(wrench));
 }
 
+/// The mean of the motors.
+fn lift(motors: &[f32]) -> f32 {
+    motors.iter().sum::<f32>() / motors.len() as f32
+}
+
+/// The motors, and the scale.
+fn show_floored<const M: usize>(what: &str, floored: Floored<M>) {
+    show(what, &[&floored.motors[..], &[floored.scale]].concat());
+}
+
+/// More roll than fits: each motor clamped by itself, and then all torque cut by one scale.
+fn hard_roll() {
+    println!(
+        "a hard roll, thrust 0.75, roll 0.5, floor {FLOOR}: motors, then thrust-floor's scale"
+    );
+    let wrench = Wrench {
+        thrust: 0.75,
+        roll: 0.5,
+        pitch: 0.0,
+        yaw: 0.0,
+    };
+    let alone = hex_x().mix(wrench);
+    let floored = thrust_floor::hex_x(wrench, FLOOR);
+    show("hex_x", &alone);
+    show_floored("hex_x, thrust-floor", floored);
+    let (without, with) = (lift(&alone), lift(&floored.motors));
+    println!("the lift             {without:.6} without it, {with:.6} with it");
+    let by_rows = thrust_floor::mix(&octo_coax(), wrench, FLOOR);
+    show_floored("octo, thrust-floor", by_rows);
+}
+
 /// Document 01's sheet: one thrust-floor command, thrust 0.5, roll 0.5, floor 0.25.
 const SHEET: [u8; 28] = [
     1, 1, 28, 0, // version, entries, length
@@ -131,5 +163,6 @@ fn run_sheet(mut state: QuadMixer) {
 fn main() {
     let state = fly();
     other_frames();
+    hard_roll();
     run_sheet(state);
 }

@@ -22,8 +22,23 @@ extern "C" {
         out: *mut f32,
         out_length: usize,
     ) -> u32;
+    fn footspandle_mixer_mix_thrust_floor(
+        rows: *const f32,
+        rows_length: usize,
+        w: *const Wrench,
+        floor: f32,
+        out: *mut f32,
+        out_length: usize,
+        scale: *mut f32,
+    ) -> u32;
     fn footspandle_hex_x(rows: *mut [[f32; 4]; 6]);
     fn footspandle_octo_coax(rows: *mut [[f32; 4]; 8]);
+    fn footspandle_mix_thrust_floor_hex_x(w: *const Wrench, floor: f32, out: *mut [f32; 6]) -> f32;
+    fn footspandle_mix_thrust_floor_octo_coax(
+        w: *const Wrench,
+        floor: f32,
+        out: *mut [f32; 8],
+    ) -> f32;
 }
 
 pub fn clamp01(x: f32) -> f32 {
@@ -39,6 +54,29 @@ pub fn mixer_mix<const M: usize>(rows: &[[f32; 4]; M], w: &Wrench, out: &mut [f3
     unsafe { footspandle_mixer_mix(rows.as_ptr(), rows.len(), w, out.as_mut_ptr(), out.len()) }
 }
 
+/// The same number. Where it is 10, outputs and scale stay as they were.
+pub fn mixer_mix_thrust_floor<const M: usize>(
+    rows: &[[f32; 4]; M],
+    w: &Wrench,
+    floor: f32,
+    out: &mut [f32; M],
+    scale: &mut f32,
+) -> u32 {
+    let rows = rows.as_flattened();
+    // SAFETY: as for `mixer_mix`; `scale` is exclusive too.
+    unsafe {
+        footspandle_mixer_mix_thrust_floor(
+            rows.as_ptr(),
+            rows.len(),
+            w,
+            floor,
+            out.as_mut_ptr(),
+            out.len(),
+            scale,
+        )
+    }
+}
+
 pub fn hex_x() -> [[f32; 4]; 6] {
     let mut rows = [[0.0; 4]; 6];
     // SAFETY: `rows` is a local of 24 floats.
@@ -51,4 +89,20 @@ pub fn octo_coax() -> [[f32; 4]; 8] {
     // SAFETY: `rows` is a local of 32 floats.
     unsafe { footspandle_octo_coax(&mut rows) };
     rows
+}
+
+/// The outputs, and the scale.
+pub fn mix_thrust_floor_hex_x(w: &Wrench, floor: f32) -> ([f32; 6], f32) {
+    let mut out = [0.0; 6];
+    // SAFETY: `w` points to a whole value, and `out` is a local that nothing else refers to.
+    let scale = unsafe { footspandle_mix_thrust_floor_hex_x(w, floor, &mut out) };
+    (out, scale)
+}
+
+/// The outputs, and the scale.
+pub fn mix_thrust_floor_octo_coax(w: &Wrench, floor: f32) -> ([f32; 8], f32) {
+    let mut out = [0.0; 8];
+    // SAFETY: as for `mix_thrust_floor_hex_x`.
+    let scale = unsafe { footspandle_mix_thrust_floor_octo_coax(w, floor, &mut out) };
+    (out, scale)
 }

@@ -3,7 +3,7 @@
 //!
 //! Follows relay-mix-multi (Apache-2.0, see NOTICE); changed: each function calls the exported function
 //! of its name, but for `Mixer::new`, which keeps its rows; a mixer of more than 64 rotors does not
-//! compile.
+//! compile; the module [`thrust_floor`] is added.
 //!
 //! An autopilot that uses relay-mix-multi changes the path in its manifest and nothing else. Answers are
 //! the same by bits, a NaN being any NaN: bindings/rust/test compares them by running both. What each
@@ -15,6 +15,7 @@
 
 #[allow(unsafe_code)]
 mod exported;
+pub mod thrust_floor;
 
 /// What is asked of a frame: a collective thrust, and a torque about each axis. It is laid out as C
 /// lays it out, so that it can be lent as it stands.

@@ -7,7 +7,7 @@ use Rattle.replay.proofs.main.Tie as tie
 
 -- By a law and not by counting, which costs by the bytes of the room.
 room : tie.Need-slice-aggregate-read-full
-room c = sym (length-replicate {A = ℕ} 524288 0)
+room c = sym (length-replicate {A = ℕ} 1048576 0)
 
 within : tie.Need-array-share-prefix-space
 within c = c .before .read-full .ensures .0

@@ -8,10 +8,10 @@ use Rattle.replay.proofs.list.inputs.Statement.{statement}
 use Rattle.replay.proofs.list.inputs.Tie as tie
 
 abbrev Inv-loop : tie.InvT-loop
-Inv-loop «record» x₀ i₀ x i = (i ≤ 260) × (length x ≡ 260)
+Inv-loop «record» x₀ i₀ x i = (i ≤ 261) × (length x ≡ 261)
 
 abbrev μ-loop : tie.MeasureT-loop
-μ-loop «record» x₀ i₀ x i = 260 - i
+μ-loop «record» x₀ i₀ x i = 261 - i
 
 loop-again : tie.Need-loop-again Inv-loop μ-loop
 loop-again c = simp length-set (omega arith)

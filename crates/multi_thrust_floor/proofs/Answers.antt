@@ -1,0 +1,73 @@
+-- What the functions answer, put together: the promises are one law about the rule, over any rows, so they hold of whatever the rule gives. Assumes nothing.
+use mathlib.Core.Path.{_≡_, sym, ap, subst, _∙_}
+use mathlib.Core.Bool.{Bool, true, false, cond}
+use mathlib.Core.List.{List, [], _∷_}
+use Prim.Native.Nat.{ℕ, _*_}
+use native.Mathlib.Omega.{arith}
+use lib.Dec.{T}
+use lib.ListN.{length, length-map}
+use lib.Ieee.{Float, binary32, fits}
+use Rattle.rules.specs.Rows.{Row, rowsOf, runOf}
+use Rattle.rules.specs.Command.{deltas}
+use Rattle.rules.specs.Multi.{rowsRefused}
+use Rattle.rules.specs.Refusals.{accepted, badRows}
+use Rattle.rules.specs.ThrustFloor.{thrustFloorScale, thrustFloorMotors}
+use Rattle.rules.proofs.Runs.{rows-count}
+use Rattle.rules.proofs.Keeps.{thrust-floor-keeps}
+use Rattle.multi.specs.declared.Wrench.{Wrench}
+use Rattle.multi_thrust_floor.specs.declared.Answer.the-variants.{Mixed as mixed, Refused as refused}
+use Rattle.multi_thrust_floor.specs.Floored.{torqueOf, motorsOf, scaleOf, Floored, Mixed}
+use Rattle.multi_thrust_floor.specs.Granted.{Granted}
+
+module _ {w : Wrench} {floor : Float} {motors : List Float} {scale : Float} where
+  -- thrust and floor are f32s
+  floored : {rows : List Row} → T (fits binary32 (w .thrust)) → T (fits binary32 floor)
+      → motors ≡ motorsOf rows w floor
+      → scale ≡ scaleOf rows w floor
+      → Floored rows w floor motors scale
+  floored {rows} ft ff is scale-is = record { is = is; scale-is = scale-is; keeps = rw (is, scale-is) (thrust-floor-keeps rows (torqueOf w) (w .thrust) floor ft ff) }
+
+  -- what the two steps find: the deltas, and what is granted of them
+  pub floored-by-steps : {rows : List Row} {ds : List Float} → fits binary32 (w .thrust) ≡ true → fits binary32 floor ≡ true
+      → ds ≡ deltas rows (torqueOf w)
+      → Granted (w .thrust) floor ds motors scale
+      → Floored rows w floor motors scale
+  unfolding thrustFloorScale thrustFloorMotors
+  floored-by-steps ft ff asked granted = floored (rw ft tt) (rw ff tt) (granted .is ∙ rw asked) (granted .scale-is ∙ rw asked)
+
+  -- by a table: a run that holds these rows
+  pub floored-by-table : {rows : List Row} {run : List Float} → Floored (rowsOf run) w floor motors scale → run ≡ runOf rows → rowsOf (runOf rows) ≡ rows
+      → Floored rows w floor motors scale
+  floored-by-table h table holds = subst (λ (rows : List Row). Floored rows w floor motors scale) (ap rowsOf table ∙ holds) h
+
+-- the deltas of a run that has four numbers for each of n outputs are as many
+pub asked-count : (run torque : List Float) (n : ℕ) {ds : List Float} → ds ≡ deltas (rowsOf run) torque → length run ≡ 4 * n → length ds ≡ n
+unfolding deltas
+asked-count run torque n asked four-each = ap length asked ∙ length-map (rowsOf run) _ ∙ rows-count n run four-each
+
+-- the side that a choice takes
+taken : {A : Type 0} {t : Bool} (x y : A) → t ≡ true → x ≡ cond t x y
+taken x y e = ap (λ (t : Bool). cond t x y) (sym e)
+
+left : {A : Type 0} {t : Bool} (x y : A) → t ≡ false → y ≡ cond t x y
+left x y e = ap (λ (t : Bool). cond t x y) (sym e)
+
+-- no scale is none, and of one scale there is one
+no-scale : (s : Float) → [] ≡ s ∷ [] → ⊥
+no-scale s e = let z : _≡_ {A = ℕ} 0 1 = ap length e in omega arith
+
+one-scale : {s t : Float} → s ∷ [] ≡ t ∷ [] → s ≡ t
+one-scale e = cc
+
+module _ {run : List Float} {w : Wrench} {floor : Float} {before : List Float} where
+  pub answer-refused : rowsRefused (length run) (length before) ≡ true → Mixed run w floor before refused before
+  answer-refused e = record { number = taken badRows accepted e; scale = taken [] _ e; output = taken before _ e; keeps = λ s none. absurd (no-scale s none) }
+
+  pub answer-mixed : {after : List Float} {s : Float} → rowsRefused (length run) (length before) ≡ false → Floored (rowsOf run) w floor after s
+      → Mixed run w floor before (mixed s) after
+  answer-mixed e h = record {
+    number = left badRows accepted e;
+    scale = ap (λ (s : Float). s ∷ []) (h .scale-is) ∙ left [] _ e;
+    output = h .is ∙ left before _ e;
+    keeps = λ s same. rw (one-scale same) at (h .keeps);
+  }

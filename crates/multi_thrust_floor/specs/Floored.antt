@@ -1,0 +1,51 @@
+-- What the functions of this crate answer to a wrench and a floor (document 02, K6). The rule is that of the quad over these rows (`rules/specs/ThrustFloor`), and so are the
+-- promises. Definitions only; the quotations are document 02's.
+use mathlib.Core.Path.{_≡_}
+use mathlib.Core.Bool.{cond}
+use mathlib.Core.List.{List, [], _∷_}
+use Prim.Native.Nat.{ℕ}
+use lib.ListN.{length}
+use lib.Ieee.{Float}
+use Rattle.rules.specs.Rows.{Row, rowsOf}
+use Rattle.rules.specs.Multi.{rowsRefused}
+use Rattle.rules.specs.Refusals.{accepted, badRows}
+use Rattle.rules.specs.ThrustFloor.{thrustFloorMotors, thrustFloorScale}
+use Rattle.rules.specs.Promises.{ThrustFloorKeeps}
+use Rattle.multi.specs.declared.Wrench.{Wrench}
+use Rattle.multi_thrust_floor.specs.declared.Answer.{Answer}
+use Rattle.multi_thrust_floor.specs.declared.Answer.the-variants.{Mixed as mixed, Refused as refused}
+
+-- the torque of a wrench, as the rules take it
+abbrev pub torqueOf : Wrench → List Float
+torqueOf w = w .roll ∷ w .pitch ∷ w .yaw ∷ []
+
+-- "the thrust-floor rule over lent rows: collective as in the quad, delta the three torque products, each torque first treated as the quad's is, summed and treated, one fit
+-- scale over all rotors, floor clamp"
+abbrev pub motorsOf : List Row → Wrench → Float → List Float
+motorsOf rows w floor = thrustFloorMotors rows (torqueOf w) (w .thrust) floor
+
+abbrev pub scaleOf : List Row → Wrench → Float → Float
+scaleOf rows w floor = thrustFloorScale rows (torqueOf w) (w .thrust) floor
+
+-- the paper's number for each case of the answer, and the scale that comes with it: none with a refusal
+abbrev pub numberOf : Answer → ℕ
+numberOf (mixed s) = accepted
+numberOf refused = badRows
+
+abbrev pub scaleIn : Answer → List Float
+scaleIn (mixed s) = s ∷ []
+scaleIn refused = []
+
+-- the motors and the scale of these rows, by bits, and "the range, the fitting clause and the order clause of demand 3"
+pub record Floored (rows : List Row) (w : Wrench) (floor : Float) (motors : List Float) (scale : Float) : Type 0 where
+  pub is : motors ≡ motorsOf rows w floor
+  pub scale-is : scale ≡ scaleOf rows w floor
+  pub keeps : ThrustFloorKeeps rows (torqueOf w) (w .thrust) floor motors scale
+
+-- `mix` of a lent run and lent outputs: number 10, no scale, and the outputs as they were; or number 0, and the scale and the motors of the run's rows, with what is promised
+-- of them
+pub record Mixed (run : List Float) (w : Wrench) (floor : Float) (before : List Float) (answer : Answer) (after : List Float) : Type 0 where
+  pub number : numberOf answer ≡ cond (rowsRefused (length run) (length before)) badRows accepted
+  pub scale : scaleIn answer ≡ cond (rowsRefused (length run) (length before)) [] (scaleOf (rowsOf run) w floor ∷ [])
+  pub output : after ≡ cond (rowsRefused (length run) (length before)) before (motorsOf (rowsOf run) w floor)
+  pub keeps : (s : Float) → scaleIn answer ≡ s ∷ [] → ThrustFloorKeeps (rowsOf run) (torqueOf w) (w .thrust) floor after s
