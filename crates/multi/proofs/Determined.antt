@@ -2,10 +2,12 @@
 -- either says what the answer equals, or is `Allocated` or `Mixed`, which do in `is`, `number` and `output`. Assumes nothing.
 use mathlib.Core.Path.{_≡_, refl}
 use mathlib.Core.List.{List}
+use Prim.Native.Nat.{ℕ}
 use native.Mathlib.Omega.{arith}
 use lib.Ieee.{Float}
 use Rattle.number.specs.Treat.{unitClamp}
 use Rattle.rules.specs.Rows.{Row, runOf, hexRows, octoRows}
+use Rattle.rules.specs.Multi.{rowsRefused}
 use Rattle.rules.proofs.Determined.{Determined, equal-determined}
 use Rattle.multi.specs.declared.Wrench.{Wrench}
 use Rattle.multi.specs.declared.Answer.{Answer}
@@ -27,6 +29,9 @@ number-tells refused mixed e = let no : ⊥ = omega arith in absurd no
 module _ (x : Float) (run before : List Float) (w : Wrench) where
   pub clamp01-determined : Determined (λ r. r ≡ unitClamp x)
   clamp01-determined = equal-determined
+
+  pub refused-determined : (floats outputs : ℕ) → Determined (λ r. r ≡ rowsRefused floats outputs)
+  refused-determined floats outputs = equal-determined
 
   -- the answer, and what the outputs are afterwards
   pub mix-determined : (a b : Answer) (after other : List Float) → Mixed run w before a after → Mixed run w before b other → (a ≡ b) × (after ≡ other)

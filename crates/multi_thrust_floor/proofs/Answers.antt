@@ -1,5 +1,5 @@
 -- What the functions answer, put together: the promises are one law about the rule, over any rows, so they hold of whatever the rule gives. Assumes nothing.
-use mathlib.Core.Path.{_≡_, sym, ap, subst, _∙_}
+use mathlib.Core.Path.{_≡_, sym, ap, _∙_}
 use mathlib.Core.Bool.{Bool, true, false, cond}
 use mathlib.Core.List.{List, [], _∷_}
 use Prim.Native.Nat.{ℕ, _*_}
@@ -16,29 +16,33 @@ use Rattle.rules.proofs.Runs.{rows-count}
 use Rattle.rules.proofs.Keeps.{thrust-floor-keeps}
 use Rattle.multi.specs.declared.Wrench.{Wrench}
 use Rattle.multi_thrust_floor.specs.declared.Answer.the-variants.{Mixed as mixed, Refused as refused}
-use Rattle.multi_thrust_floor.specs.Floored.{torqueOf, motorsOf, scaleOf, Floored, Mixed}
+use Rattle.multi_thrust_floor.specs.Floored.{wrenchTorque, flooredMotors, flooredScale, Floored, Mixed}
 use Rattle.multi_thrust_floor.specs.Granted.{Granted}
 
 module _ {w : Wrench} {floor : Float} {motors : List Float} {scale : Float} where
   -- thrust and floor are f32s
   floored : {rows : List Row} → T (fits binary32 (w .thrust)) → T (fits binary32 floor)
-      → motors ≡ motorsOf rows w floor
-      → scale ≡ scaleOf rows w floor
+      → motors ≡ flooredMotors rows w floor
+      → scale ≡ flooredScale rows w floor
       → Floored rows w floor motors scale
-  floored {rows} ft ff is scale-is = record { is = is; scale-is = scale-is; keeps = rw (is, scale-is) (thrust-floor-keeps rows (torqueOf w) (w .thrust) floor ft ff) }
+  floored {rows} ft ff is scale-is = record { is = is; scale-is = scale-is; keeps = rw (is, scale-is) (thrust-floor-keeps rows (wrenchTorque w) (w .thrust) floor ft ff) }
 
   -- what the two steps find: the deltas, and what is granted of them
   pub floored-by-steps : {rows : List Row} {ds : List Float} → fits binary32 (w .thrust) ≡ true → fits binary32 floor ≡ true
-      → ds ≡ deltas rows (torqueOf w)
+      → ds ≡ deltas rows (wrenchTorque w)
       → Granted (w .thrust) floor ds motors scale
       → Floored rows w floor motors scale
   unfolding thrustFloorScale thrustFloorMotors
   floored-by-steps ft ff asked granted = floored (rw ft tt) (rw ff tt) (granted .is ∙ rw asked) (granted .scale-is ∙ rw asked)
 
-  -- by a table: a run that holds these rows
-  pub floored-by-table : {rows : List Row} {run : List Float} → Floored (rowsOf run) w floor motors scale → run ≡ runOf rows → rowsOf (runOf rows) ≡ rows
+  -- by the rows of a table: a run that holds them
+  pub floored-by-table : {rows : List Row} {run ds : List Float} → run ≡ runOf rows → rowsOf (runOf rows) ≡ rows
+      → fits binary32 (w .thrust) ≡ true
+      → fits binary32 floor ≡ true
+      → ds ≡ deltas (rowsOf run) (wrenchTorque w)
+      → Granted (w .thrust) floor ds motors scale
       → Floored rows w floor motors scale
-  floored-by-table h table holds = subst (λ (rows : List Row). Floored rows w floor motors scale) (ap rowsOf table ∙ holds) h
+  floored-by-table table holds ft ff asked granted = floored-by-steps ft ff (asked ∙ rw (table, holds)) granted
 
 -- the deltas of a run that has four numbers for each of n outputs are as many
 pub asked-count : (run torque : List Float) (n : ℕ) {ds : List Float} → ds ≡ deltas (rowsOf run) torque → length run ≡ 4 * n → length ds ≡ n

@@ -1,8 +1,6 @@
 -- Each public contract determines its answer, and that of `mix` the lent outputs too: two results that satisfy it are one, by bits. Assumes nothing.
 use mathlib.Core.Path.{_≡_, refl, ap₂}
-use mathlib.Core.List.{List, [], _∷_}
-use Prim.Native.Nat.{ℕ}
-use native.Mathlib.Omega.{arith}
+use mathlib.Core.List.{List}
 use lib.Ieee.{Float}
 use Rattle.rules.specs.Rows.{Row, hexRows, octoRows}
 use Rattle.rules.proofs.Determined.{Determined, equal-determined}

@@ -10,7 +10,7 @@ use Rattle.rules.specs.Rows.{1/2, hexRows}
 use Rattle.rules.specs.Command.{lifted, delta, deltas}
 use Rattle.rules.specs.ThrustFloor.{oneScale, scaledMotor, scaledMotors, thrustFloorScale, thrustFloorMotors}
 use Rattle.multi.specs.declared.Wrench.{Wrench}
-use Rattle.multi_thrust_floor.specs.Floored.{motorsOf, scaleOf}
+use Rattle.multi_thrust_floor.specs.Floored.{flooredMotors, flooredScale}
 
 abbrev 1/8 : Float
 1/8 = ofBits binary32 0x3e00_0000
@@ -27,6 +27,6 @@ abbrev 7/8 : Float
 abbrev hard : Wrench
 hard = record { thrust = 3/4; roll = 1/2; pitch = 0f; yaw = 0f }
 
-pub hard-roll : (motorsOf hexRows hard 1/8 ≡ 1/2 ∷ 1f ∷ 7/8 ∷ 5/8 ∷ 5/8 ∷ 7/8 ∷ []) × (scaleOf hexRows hard 1/8 ≡ 1/2)
+pub hard-roll : (flooredMotors hexRows hard 1/8 ≡ 1/2 ∷ 1f ∷ 7/8 ∷ 5/8 ∷ 5/8 ∷ 7/8 ∷ []) × (flooredScale hexRows hard 1/8 ≡ 1/2)
 unfolding add sub mul div neg lt ofBits treated clamped limited floorClamp limits motorLimit tightened walk settled fitScale hexRows lifted delta deltas oneScale scaledMotor scaledMotors thrustFloorScale thrustFloorMotors
 hard-roll = (refl, refl)

@@ -5,14 +5,14 @@ use mathlib.Core.Bool.{false}
 use mathlib.Core.List.{List, [], _∷_}
 use lib.ListN.{length}
 use lib.Ieee.{Float}
-use Rattle.rules.specs.Rows.{rowsOf, runOf, quadRows}
+use Rattle.rules.specs.Rows.{runOf, quadRows}
 use Rattle.rules.specs.Multi.{rowsRefused}
 use Rattle.rules.proofs.Rows.{quad-rows}
 use Rattle.multi.specs.declared.Wrench.{Wrench}
 use Rattle.quad.specs.declared.QuadMixer.{QuadMixer}
 use Rattle.quad.specs.Mixes.{ThrustFloorGives}
 use Rattle.multi_thrust_floor.specs.declared.Answer.{Answer}
-use Rattle.multi_thrust_floor.specs.Floored.{torqueOf, motorsOf, scaleOf, scaleIn, Mixed}
+use Rattle.multi_thrust_floor.specs.Floored.{wrenchTorque, scaleIn, Mixed}
 
 -- four rows for four outputs are accepted
 four-accepted : rowsRefused (length (runOf quadRows)) 4 ≡ false
@@ -22,7 +22,7 @@ four-accepted = refl
 pub quad-agrees : (w : Wrench) (floor : Float) (before after : List Float) (answer : Answer) (q given : QuadMixer)
     → Mixed (runOf quadRows) w floor before answer after
     → length before ≡ 4
-    → ThrustFloorGives q (torqueOf w) (w .thrust) floor given
+    → ThrustFloorGives q (wrenchTorque w) (w .thrust) floor given
     → (after ≡ given .«last_motors») × (scaleIn answer ≡ given .«last_torque_scale» ∷ [])
 quad-agrees w floor before after answer q given h four k = (
   h .output ∙ rw (accepted-four, quad-rows) (sym (ap (λ (x : QuadMixer). x .«last_motors») (k .is))),

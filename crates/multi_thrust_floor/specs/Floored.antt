@@ -16,16 +16,16 @@ use Rattle.multi_thrust_floor.specs.declared.Answer.{Answer}
 use Rattle.multi_thrust_floor.specs.declared.Answer.the-variants.{Mixed as mixed, Refused as refused}
 
 -- the torque of a wrench, as the rules take it
-abbrev pub torqueOf : Wrench → List Float
-torqueOf w = w .roll ∷ w .pitch ∷ w .yaw ∷ []
+abbrev pub wrenchTorque : Wrench → List Float
+wrenchTorque w = w .roll ∷ w .pitch ∷ w .yaw ∷ []
 
 -- "the thrust-floor rule over lent rows: collective as in the quad, delta the three torque products, each torque first treated as the quad's is, summed and treated, one fit
 -- scale over all rotors, floor clamp"
-abbrev pub motorsOf : List Row → Wrench → Float → List Float
-motorsOf rows w floor = thrustFloorMotors rows (torqueOf w) (w .thrust) floor
+abbrev pub flooredMotors : List Row → Wrench → Float → List Float
+flooredMotors rows w floor = thrustFloorMotors rows (wrenchTorque w) (w .thrust) floor
 
-abbrev pub scaleOf : List Row → Wrench → Float → Float
-scaleOf rows w floor = thrustFloorScale rows (torqueOf w) (w .thrust) floor
+abbrev pub flooredScale : List Row → Wrench → Float → Float
+flooredScale rows w floor = thrustFloorScale rows (wrenchTorque w) (w .thrust) floor
 
 -- the paper's number for each case of the answer, and the scale that comes with it: none with a refusal
 abbrev pub numberOf : Answer → ℕ
@@ -38,14 +38,14 @@ scaleIn refused = []
 
 -- the motors and the scale of these rows, by bits, and "the range, the fitting clause and the order clause of demand 3"
 pub record Floored (rows : List Row) (w : Wrench) (floor : Float) (motors : List Float) (scale : Float) : Type 0 where
-  pub is : motors ≡ motorsOf rows w floor
-  pub scale-is : scale ≡ scaleOf rows w floor
-  pub keeps : ThrustFloorKeeps rows (torqueOf w) (w .thrust) floor motors scale
+  pub is : motors ≡ flooredMotors rows w floor
+  pub scale-is : scale ≡ flooredScale rows w floor
+  pub keeps : ThrustFloorKeeps rows (wrenchTorque w) (w .thrust) floor motors scale
 
 -- `mix` of a lent run and lent outputs: number 10, no scale, and the outputs as they were; or number 0, and the scale and the motors of the run's rows, with what is promised
 -- of them
 pub record Mixed (run : List Float) (w : Wrench) (floor : Float) (before : List Float) (answer : Answer) (after : List Float) : Type 0 where
   pub number : numberOf answer ≡ cond (rowsRefused (length run) (length before)) badRows accepted
-  pub scale : scaleIn answer ≡ cond (rowsRefused (length run) (length before)) [] (scaleOf (rowsOf run) w floor ∷ [])
-  pub output : after ≡ cond (rowsRefused (length run) (length before)) before (motorsOf (rowsOf run) w floor)
-  pub keeps : (s : Float) → scaleIn answer ≡ s ∷ [] → ThrustFloorKeeps (rowsOf run) (torqueOf w) (w .thrust) floor after s
+  pub scale : scaleIn answer ≡ cond (rowsRefused (length run) (length before)) [] (flooredScale (rowsOf run) w floor ∷ [])
+  pub output : after ≡ cond (rowsRefused (length run) (length before)) before (flooredMotors (rowsOf run) w floor)
+  pub keeps : (s : Float) → scaleIn answer ≡ s ∷ [] → ThrustFloorKeeps (rowsOf run) (wrenchTorque w) (w .thrust) floor after s

@@ -8,7 +8,7 @@ ghost use Rattle.rules.specs.Rows.{rowsOf, hexRows, octoRows};
 ghost use Rattle.rules.specs.Command.{deltas};
 ghost use Rattle.rules.specs.Multi.{maxOutputs};
 ghost use Rattle.rules.specs.ThrustFloor.{scaledMotor};
-ghost use Rattle.multi_thrust_floor.specs.Floored.{torqueOf, Floored, Mixed};
+ghost use Rattle.multi_thrust_floor.specs.Floored.{wrenchTorque, Floored, Mixed};
 ghost use Rattle.multi_thrust_floor.specs.Granted.{Granted};
 use multi::MAX_OUTPUTS;
 use multi::Wrench;
@@ -45,7 +45,7 @@ pub struct Octo {
 // What the torque asks of each rotor, by its row: the deltas. A row's thrust is not read.
 fn ask(rows: &[f32], w: Wrench, out: &mut [f32])
     requires { ⌜ length (now rows) ≡ 4 * length (now out) ⌝ }
-    ensures { λ _. ⌜ now (out .exit) ≡ deltas (rowsOf (now (rows .entry))) (torqueOf w) ⌝ }
+    ensures { λ _. ⌜ now (out .exit) ≡ deltas (rowsOf (now (rows .entry))) (wrenchTorque w) ⌝ }
 {
     let r = sanitise(w.roll);
     let p = sanitise(w.pitch);

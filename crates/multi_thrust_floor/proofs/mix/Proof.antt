@@ -4,7 +4,7 @@ use lib.ListN.{length}
 use denote.Ref.{now}
 use borrow.Author.Needs.{needs}
 use Rattle.rules.proofs.Rows.{four-each, within-most}
-use Rattle.multi_thrust_floor.specs.Floored.{torqueOf}
+use Rattle.multi_thrust_floor.specs.Floored.{wrenchTorque}
 use Rattle.multi_thrust_floor.proofs.Answers.{floored-by-steps, asked-count, answer-refused, answer-mixed}
 use Rattle.multi_thrust_floor.proofs.mix.Statement.{statement}
 use Rattle.multi_thrust_floor.proofs.mix.Tie as tie
@@ -26,7 +26,7 @@ grant-requires c κs =
     let rows = now (start .args .rows) in
     let outputs = length (now (start .args .out)) in
     let kept = sym (at-if .before .refused .ensures) ∙ at-if .if1 .left in
-    rw (asked-count rows (torqueOf (start .args .w)) outputs (at-ask .ask .ensures) (four-each (length rows) outputs kept)) (within-most (length rows) outputs kept)
+    rw (asked-count rows (wrenchTorque (start .args .w)) outputs (at-ask .ask .ensures) (four-each (length rows) outputs kept)) (within-most (length rows) outputs kept)
 
 returns-2 : tie.Need-returns-2
 returns-2 c =
