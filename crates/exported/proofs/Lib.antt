@@ -1,3 +1,3 @@
--- `Determined`: the contracts leave nothing open. `Unchanged`: a sheet that is refused leaves state and output as they were.
+-- `Determined`: the contracts leave nothing open. `Unchanged`: what is refused leaves what was lent as it was.
 pub mod Determined
 pub mod Unchanged

@@ -1,13 +1,19 @@
--- Where `footspandle_sheet_run` answers a number other than 0, the state's five floats and the output are as they were. Assumes nothing.
-use mathlib.Core.Path.{_≡_, ap, _∙_}
+-- What a refusal leaves as it was. Where `footspandle_sheet_run` answers a number other than 0: the state's five floats and the output. Where `footspandle_mixer_mix_thrust_floor` does: the
+-- outputs, and what is lent for the scale. Assumes nothing.
+use mathlib.Core.Path.{_≡_, refl, ap, _∙_}
 use mathlib.Core.List.{List}
 use Prim.Native.Nat.{ℕ}
 use lib.ListN.{length}
 use lib.Ieee.{Float}
 use borrow.Author.Tests.{ne-eqb}
 use Rattle.rules.specs.Refusals.{accepted, Told}
+use Rattle.multi.specs.declared.Wrench.{Wrench}
+use Rattle.multi_thrust_floor.specs.declared.Answer.{Answer}
+use Rattle.multi_thrust_floor.specs.declared.Answer.the-variants.{Mixed, Refused}
+use Rattle.multi_thrust_floor.specs.Floored.{numberOf}
+use Rattle.multi_thrust_floor.proofs.Refused as floor-refused
 use Rattle.lent.proofs.Refused.{refused-unchanged}
-use Rattle.exported.specs.Passed.{RanAs}
+use Rattle.exported.specs.Passed.{stored, FlooredAs, RanAs}
 
 pub run-unchanged : (s : List ℕ) (before : List Float) (out : List ℕ) (number entry : ℕ) (after : List Float) (written : List ℕ)
     → RanAs s before out number entry after written
@@ -17,3 +23,16 @@ pub run-unchanged : (s : List ℕ) (before : List Float) (out : List ℕ) (numbe
 run-unchanged s before out number entry after written h five refused =
     let same = ap (λ (t : Told). t .number) (h .told-is ∙ h .ran .holds .told) in
     refused-unchanged s before out (h .verdict) after written five (ne-eqb _ accepted (λ e. refused (same ∙ e))) (h .ran)
+
+-- what is held for a scale stays where the answer has none
+held-stays : (answer : Answer) (held : Float) → (numberOf answer ≡ accepted → ⊥) → stored answer held ≡ held
+held-stays (Mixed s) held not-0 = absurd (not-0 refl)
+held-stays Refused held not-0 = refl
+
+pub mix-thrust-floor-unchanged : (run : List Float) (w : Wrench) (floor : Float) (before : List Float) (held : Float) (number : ℕ) (after : List Float) (scale : Float)
+    → FlooredAs run w floor before held number after scale
+    → (number ≡ accepted → ⊥)
+    → (after ≡ before) × (scale ≡ held)
+mix-thrust-floor-unchanged run w floor before held number after scale h refused =
+    let refusal : numberOf (h .answer) ≡ accepted → ⊥ = λ e. refused (h .number-is ∙ e) in
+    (floor-refused.refused-unchanged run w floor before (h .answer) after (h .mixed) refusal, h .scale-is ∙ held-stays (h .answer) held refusal)
