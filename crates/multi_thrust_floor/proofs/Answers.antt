@@ -1,12 +1,13 @@
 -- What the functions answer, put together: the promises are one law about the rule, over any rows, so they hold of whatever the rule gives. Assumes nothing.
-use mathlib.Core.Path.{_≡_, sym, ap, _∙_}
-use mathlib.Core.Bool.{Bool, true, false, cond}
+use mathlib.Core.Path.{_≡_, ap, _∙_}
+use mathlib.Core.Bool.{true, false}
 use mathlib.Core.List.{List, [], _∷_}
 use Prim.Native.Nat.{ℕ, _*_}
 use native.Mathlib.Omega.{arith}
 use lib.Dec.{T}
 use lib.ListN.{length, length-map}
 use lib.Ieee.{Float, binary32, fits}
+use Rattle.number.proofs.Choice.{taken, left}
 use Rattle.rules.specs.Rows.{Row, rowsOf, runOf}
 use Rattle.rules.specs.Command.{deltas}
 use Rattle.rules.specs.Multi.{rowsRefused}
@@ -48,13 +49,6 @@ module _ {w : Wrench} {floor : Float} {motors : List Float} {scale : Float} wher
 pub asked-count : (run torque : List Float) (n : ℕ) {ds : List Float} → ds ≡ deltas (rowsOf run) torque → length run ≡ 4 * n → length ds ≡ n
 unfolding deltas
 asked-count run torque n asked four-each = ap length asked ∙ length-map (rowsOf run) _ ∙ rows-count n run four-each
-
--- the side that a choice takes
-taken : {A : Type 0} {t : Bool} (x y : A) → t ≡ true → x ≡ cond t x y
-taken x y e = ap (λ (t : Bool). cond t x y) (sym e)
-
-left : {A : Type 0} {t : Bool} (x y : A) → t ≡ false → y ≡ cond t x y
-left x y e = ap (λ (t : Bool). cond t x y) (sym e)
 
 -- no scale is none, and of one scale there is one
 no-scale : (s : Float) → [] ≡ s ∷ [] → ⊥

@@ -1,5 +1,5 @@
-// The thrust-floor mix of frames of any rows: thrust before torque on six, eight and up to 64 rotors, each command in floor..1 (document 02, K6). The rule is the quad's,
-// and what is done for one rotor is the quad's code; over the rows it goes in loops. No Rust has it.
+// The thrust-floor mix of frames of any rows: thrust before torque on six, eight and up to 64 rotors, each command in floor..1 (document 02, K6). Follows the rule of relay-mix-quad's
+// `mix_thrust_floor` (Apache-2.0, see NOTICE), which is for four; changed: written in Rattle with contracts, over lent rows of any count. What is done for one rotor is the quad's code.
 ghost use mathlib.Core.Path.{_≡_};
 ghost use mathlib.Core.List.{map};
 ghost use Prim.Native.Nat.{_*_, _≤_};

@@ -1,5 +1,5 @@
 -- Laws on `cond`. Assumes nothing.
-use mathlib.Core.Path.{_≡_, refl}
+use mathlib.Core.Path.{_≡_, refl, sym, ap}
 use mathlib.Core.Bool.{Bool, true, false, _&&_, cond}
 
 -- two choices that end alike are one: what is chosen where both tests hold
@@ -11,3 +11,10 @@ both false q x y = refl
 pub by-test : {A : Type 0} (P : A → Type 0) (b : Bool) {x y : A} → (b ≡ true → P x) → (b ≡ false → P y) → P (cond b x y)
 by-test P true f g = f refl
 by-test P false f g = g refl
+
+-- the side that a choice takes
+pub taken : {A : Type 0} {b : Bool} (x y : A) → b ≡ true → x ≡ cond b x y
+taken x y e = ap (λ (b : Bool). cond b x y) (sym e)
+
+pub left : {A : Type 0} {b : Bool} (x y : A) → b ≡ false → y ≡ cond b x y
+left x y e = ap (λ (b : Bool). cond b x y) (sym e)
