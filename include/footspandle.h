@@ -102,19 +102,22 @@ typedef char footspandle_quad_is_20_bytes[sizeof(footspandle_quad) == 20 ? 1 : -
 typedef char footspandle_wrench_is_16_bytes[sizeof(footspandle_wrench) == 16 ? 1 : -1];
 typedef char footspandle_size_is_8_bytes[sizeof(size_t) == 8 ? 1 : -1];
 
-/* Document 01's numbers. Where more than one applies, the first is given, 5 to 7 entry by entry. */
+/*
+ * The numbers of refusals, in the words of docs/REFUSALS.md. Where more than one applies to a call, the
+ * first here is given, those about an entry being tried entry by entry.
+ */
 enum footspandle_number {
-    FOOTSPANDLE_ACCEPTED = 0,
+    FOOTSPANDLE_ACCEPTED = 0,     /* nothing is refused */
     FOOTSPANDLE_TOO_SHORT = 1,    /* the sheet has under 4 bytes */
-    FOOTSPANDLE_BAD_VERSION = 2,  /* its version is not 1 */
-    FOOTSPANDLE_TOO_MANY = 3,     /* it has over 64 entries */
-    FOOTSPANDLE_BAD_LENGTH = 4,   /* its length field is not its length, or the contents do not fit in it */
+    FOOTSPANDLE_BAD_VERSION = 2,  /* the version is not 1 */
+    FOOTSPANDLE_TOO_MANY = 3,     /* there are over 64 entries */
+    FOOTSPANDLE_BAD_LENGTH = 4,   /* the length field is not the length of the sheet, or the contents do not fit in that */
     FOOTSPANDLE_BAD_KIND = 5,     /* an entry's kind is over 4 */
     FOOTSPANDLE_BAD_ROTOR = 6,    /* an entry's rotor byte is not 0, and its kind is not 4 */
-    FOOTSPANDLE_BAD_OFFSET = 7,   /* an entry's body does not begin where the one before it ends (the first: the contents) */
-    FOOTSPANDLE_BAD_END = 8,      /* the last body does not end where the sheet does */
+    FOOTSPANDLE_BAD_OFFSET = 7,   /* an entry's body does not begin at the end of the one before it (the first: of the contents) */
+    FOOTSPANDLE_BAD_END = 8,      /* the sheet does not end at the end of the last body (with no entries: of the contents) */
     FOOTSPANDLE_SHORT_OUTPUT = 9, /* the output has under 20 bytes for each entry */
-    FOOTSPANDLE_BAD_ROWS = 10     /* over 64 outputs, or rows that are not four floats for each */
+    FOOTSPANDLE_BAD_ROWS = 10     /* there are over 64 outputs, or rows that are not four floats for each */
 };
 
 /* The kinds of a sheet's entries. */
@@ -331,23 +334,27 @@ float footspandle_mix_thrust_floor_octo_coax(const footspandle_wrench *w, float 
  *             floor. Bodies stand in the order of the entries and touch
  *
  * The functions that judge a sheet answer 0 where it is accepted, and else the number of the first
- * refusal that applies. They store the number of the entry that it is about, counted from 0: 5, 6 and
- * 7 are about an entry; with 0 and every other number 0 is stored.
+ * refusal that applies (enum footspandle_number), and they store the entry that it comes with, counted
+ * from 0. 5, 6 and 7 come with the entry that they are about, and are tried entry by entry; with any
+ * other number 0 is stored.
  */
 
-/* Whether a sheet is accepted: answers 0 or one of 1 to 8, and stores the entry. */
+/*
+ * Whether a sheet is accepted: answers 0 or a number about the sheet (9 is about an output), and stores
+ * the entry.
+ */
 uint32_t footspandle_sheet_check(const uint8_t *sheet, size_t sheet_length, uint32_t *entry);
 
 /*
  * The body of entry i as a part of the sheet: answers its length, 16 or 20, and stores where it
- * begins in the sheet; it ends within the sheet. For a sheet that 1 to 8 refuse, and for an i that is
- * not under the count of entries, the part is empty: 0 is answered, and 0 is stored.
+ * begins in the sheet; it ends within the sheet. For a sheet that footspandle_sheet_check refuses, and
+ * for an i that is not under the count of entries, the part is empty: 0 is answered, and 0 is stored.
  */
 size_t footspandle_sheet_body(const uint8_t *sheet, size_t sheet_length, size_t i, size_t *at);
 
 /*
- * Runs a sheet from a state: its commands as calls of the mixes above, one after another. Answers 0
- * or one of 1 to 9, and stores the entry.
+ * Runs a sheet from a state: its commands as calls of the mixes above, one after another. Answers 0,
+ * or what footspandle_sheet_check does of a refused sheet, or 9, and stores the entry.
  * On 0 the state is that after the last call, and the answer of entry i stands in the bytes 20i to
  * 20i + 19 of the output: four motors and then the recorded scale after that call, each as the bits
  * of its float, little-endian (a NaN, which only the scale of the lent state can be, as 7fc00000).

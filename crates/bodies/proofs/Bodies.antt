@@ -11,7 +11,7 @@ use lib.Dec.{ltb, eqb}
 use lib.ListN.{length, take, drop, length-drop, drop-of-length-le, take-append-drop}
 use lib.Seq.{length-take-le, drop-drop}
 use borrow.Author.Tests.{lt-ltb, le-ltb, eq-eqb, ltb-true, eqb-true}
-use Rattle.rules.specs.Refusals.{accepted}
+use Rattle.refusals.specs.Numbers.{accepted}
 use Rattle.entries.specs.Layout.{countOf, entryAt, kindOf, offsetOf, bodySize, bodyAt}
 use Rattle.sheet.specs.Table.{judged}
 use Rattle.sheet.proofs.Walk.{body-first, body-next}

@@ -6,7 +6,7 @@ use Prim.Native.Nat.{ℕ, _+_}
 use lib.Dec.{ltb, eqb}
 use lib.ListN.{take, drop}
 use denote.Ref.{RefT, now, ptr}
-use Rattle.rules.specs.Refusals.{accepted}
+use Rattle.refusals.specs.Numbers.{accepted}
 use Rattle.entries.specs.Layout.{countOf, kindOf, offsetOf, bodySize}
 use Rattle.sheet.specs.Table.{judged}
 

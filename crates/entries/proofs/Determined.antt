@@ -1,20 +1,22 @@
--- Each public contract determines its answer: two results that satisfy it are one. A contract of this crate either says what the answer equals, or is `Decoded`, whose
--- number and commands tell the cases of an entry's answer apart. Assumes nothing.
+-- Each public contract determines its answer: two results that satisfy it are one. A contract of this crate either says what the answer equals, or is `Chosen`, whose
+-- number and cases tell the answers apart. Assumes nothing.
 use mathlib.Core.Path.{_≡_, refl, sym, ap, _∙_}
 use mathlib.Core.Bool.{cond}
 use mathlib.Core.List.{List}
 use Prim.Native.Nat.{ℕ}
 use lib.Dec.{eqb}
 use borrow.Author.Tests.{eqb-false}
-use Rattle.rules.specs.Refusals.{accepted, tooShort, badVersion, tooMany, badLength, badKind, badRotor, badOffset, badEnd}
-use Rattle.rules.proofs.Determined.{Determined, equal-determined}
-use Rattle.entries.specs.declared.command.Entry.{Entry}
-use Rattle.entries.specs.declared.command.Entry.the-variants.{Is, Refused}
+use Rattle.refusals.specs.Numbers.{accepted, tooShort, badVersion, tooMany, badLength, badKind, badRotor, badOffset, badEnd}
+use Rattle.general.proofs.Determined.{Determined, equal-determined}
+use Rattle.entries.specs.declared.choice.Case.{Case}
+use Rattle.entries.specs.declared.choice.Choice.{Choice}
+use Rattle.entries.specs.declared.choice.Choice.the-variants.{Is, Refused}
 use Rattle.entries.specs.declared.refusal.Refusal.{Refusal}
 use Rattle.entries.specs.declared.refusal.Refusal.the-variants.{TooShort, BadVersion, TooMany, BadLength, BadKind, BadRotor, BadOffset, BadEnd, ShortOutput}
 use Rattle.entries.specs.Layout.{versionOf, countOf, lengthField, entryAt, kindOf, rotorOf, offsetOf, bodySize, numberIn}
 use Rattle.entries.specs.Refusal.{numberOf}
-use Rattle.entries.specs.Entry.{commandAt, choiceNumber, entryTold, commandsIn, Decoded}
+use Rattle.entries.specs.Choice.{choiceTold, casesIn, ChosenBy}
+use Rattle.entries.specs.Entry.{commandWith}
 use Rattle.entries.proofs.Answers.{never-accepted}
 
 -- ---- the numbers tell the refusals apart
@@ -43,17 +45,17 @@ named-number ShortOutput = refl
 pub number-tells : (r q : Refusal) → numberOf r ≡ numberOf q → r ≡ q
 number-tells r q e = sym (named-number r) ∙ ap named e ∙ named-number q
 
--- ---- so do the number and the commands of an entry's answer
+-- ---- so do the number and the case of a choice
 
-answer-tells : (e d : Entry) → entryTold e ≡ entryTold d → commandsIn e ≡ commandsIn d → e ≡ d
-answer-tells (Is c) (Is b) n l = let same : c ≡ b = cc in ap Is same
-answer-tells (Refused r) (Refused q) n l = ap Refused (number-tells r q n)
-answer-tells (Is c) (Refused q) n l = absurd (eqb-false (numberOf q) accepted (never-accepted q) (sym n))
-answer-tells (Refused r) (Is b) n l = absurd (eqb-false (numberOf r) accepted (never-accepted r) n)
+choice-tells : (c d : Choice) → choiceTold c ≡ choiceTold d → casesIn c ≡ casesIn d → c ≡ d
+choice-tells (Is a) (Is b) n l = let same : a ≡ b = cc in ap Is same
+choice-tells (Refused r) (Refused q) n l = ap Refused (number-tells r q n)
+choice-tells (Is a) (Refused q) n l = absurd (eqb-false (numberOf q) accepted (never-accepted q) (sym n))
+choice-tells (Refused r) (Is b) n l = absurd (eqb-false (numberOf r) accepted (never-accepted r) n)
 
 -- ---- the public functions
 
-module _ (s : List ℕ) (i j kind : ℕ) (r : Refusal) where
+module _ (s : List ℕ) (i j kind rotor : ℕ) (case : Case) (r : Refusal) where
   pub version-determined : Determined (λ n. n ≡ versionOf s)
   version-determined = equal-determined
 
@@ -84,5 +86,8 @@ module _ (s : List ℕ) (i j kind : ℕ) (r : Refusal) where
   pub number-determined : Determined (λ n. n ≡ numberOf r)
   number-determined = equal-determined
 
-  pub read-entry-determined : Determined (Decoded (choiceNumber (kindOf s i) (rotorOf s i)) (commandAt s i))
-  read-entry-determined e d h k = answer-tells e d (h .told ∙ sym (k .told)) (h .commands ∙ sym (k .commands))
+  pub choose-determined : Determined (ChosenBy kind rotor)
+  choose-determined c d h k = choice-tells c d (h .told ∙ sym (k .told)) (h .cases ∙ sym (k .cases))
+
+  pub read-command-determined : Determined (λ c. c ≡ commandWith s i case)
+  read-command-determined = equal-determined

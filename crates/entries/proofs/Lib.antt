@@ -1,4 +1,6 @@
--- `Answers` has what is known of an entry's answer, `Choice` what the kind and the rotor byte of an entry choose, and `Determined` that the contracts leave nothing open.
+-- `Answers` has what the number of a choice says of the answer, `Numbers` which number the kind and the rotor byte of an entry get, `Commands`
+-- which command, and `Determined` that the contracts leave nothing open.
 pub mod Answers
-pub mod Choice
+pub mod Numbers
+pub mod Commands
 pub mod Determined

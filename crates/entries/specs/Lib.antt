@@ -1,3 +1,4 @@
 pub mod Layout
 pub mod Refusal
+pub mod Choice
 pub mod Entry

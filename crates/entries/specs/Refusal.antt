@@ -1,6 +1,6 @@
 -- The paper's number for each case of `Refusal` (the table in document 01, 'The command sheet (ours)'). Definitions only.
 use Prim.Native.Nat.{ℕ}
-use Rattle.rules.specs.Refusals.{tooShort, badVersion, tooMany, badLength, badKind, badRotor, badOffset, badEnd, shortOutput}
+use Rattle.refusals.specs.Numbers.{tooShort, badVersion, tooMany, badLength, badKind, badRotor, badOffset, badEnd, shortOutput}
 use Rattle.entries.specs.declared.refusal.Refusal.{Refusal}
 use Rattle.entries.specs.declared.refusal.Refusal.the-variants.{TooShort, BadVersion, TooMany, BadLength, BadKind, BadRotor, BadOffset, BadEnd, ShortOutput}
 

@@ -1,12 +1,8 @@
-// An entry of a sheet as a command.
+// The command of an entry.
 ghost use mathlib.Core.Path.{_≡_};
-ghost use Prim.Native.Nat.{_<_};
-ghost use Rattle.entries.specs.Layout.{kindOf, rotorOf};
-ghost use Rattle.entries.specs.Entry.{commandOf, commandAt, choiceNumber, Decoded};
-use crate::layout::kind;
+ghost use Rattle.entries.specs.Entry.{commandOf, commandWith};
+use crate::choice::Case;
 use crate::layout::number_in;
-use crate::layout::rotor;
-use crate::refusal::Refusal;
 
 // One command of five kinds. `failed` is the lost rotor, 0 to 3, or `NONE_LOST`.
 pub enum Command {
@@ -47,42 +43,40 @@ pub enum Command {
     },
 }
 
-// What an entry is.
-pub enum Entry {
-    Is(Command),
-    Refused(Refusal),
-}
-
-// The rotor number that stands for all that name none.
-pub const NONE_LOST: usize = 4;
-
-// The command of a kind that names no rotor.
-fn unlost(kind: u8, thrust: f32, roll: f32, pitch: f32, yaw: f32, floor: f32) -> Command
-    requires { ⌜ kind < 4 ⌝ }
-    ensures { λ c. ⌜ c ≡ commandOf kind 0 thrust roll pitch yaw floor ⌝ }
+// The command of a case with its numbers.
+fn with_numbers(case: Case, thrust: f32, roll: f32, pitch: f32, yaw: f32, floor: f32) -> Command
+    ensures { λ c. ⌜ c ≡ commandOf case thrust roll pitch yaw floor ⌝ }
 {
-    match kind {
-        0 => Command::Plain {
+    match case {
+        Case::Plain => Command::Plain {
             thrust,
             roll,
             pitch,
             yaw,
         },
-        1 => Command::ThrustFloor {
-            thrust,
-            roll,
-            pitch,
-            yaw,
-            floor,
-        },
-        2 => Command::Priority {
+        Case::ThrustFloor => Command::ThrustFloor {
             thrust,
             roll,
             pitch,
             yaw,
             floor,
         },
-        3..=255 => Command::Airmode {
+        Case::Priority => Command::Priority {
+            thrust,
+            roll,
+            pitch,
+            yaw,
+            floor,
+        },
+        Case::Airmode => Command::Airmode {
+            thrust,
+            roll,
+            pitch,
+            yaw,
+            floor,
+        },
+        Case::RotorOut(failed) => Command::RotorOut {
+            failed,
             thrust,
             roll,
             pitch,
@@ -92,40 +86,12 @@ fn unlost(kind: u8, thrust: f32, roll: f32, pitch: f32, yaw: f32, floor: f32) ->
     }
 }
 
-// The kind and the rotor byte choose the command, which takes its numbers from those of the body, or the refusal.
-fn chosen(kind: u8, rotor: u8, thrust: f32, roll: f32, pitch: f32, yaw: f32, floor: f32) -> Entry
-    ensures { λ e. ⌜ Decoded (choiceNumber kind rotor) (commandOf kind rotor thrust roll pitch yaw floor) e ⌝ }
+// The command of entry i, which its kind and rotor byte chose: the numbers are those of the body at its offset. Whether the offset is the right one is not asked here.
+pub fn read_command(sheet: &[u8], i: u8, case: Case) -> Command
+    ensures { λ c. ⌜ c ≡ commandWith (now (sheet .entry)) i case ⌝ }
 {
-    match kind {
-        0..=3 => match rotor {
-            0 => Entry::Is(unlost(kind, thrust, roll, pitch, yaw, floor)),
-            1..=255 => Entry::Refused(Refusal::BadRotor),
-        },
-        4 => {
-            let failed = match rotor {
-                0..=3 => rotor as usize,
-                4..=255 => NONE_LOST,
-            };
-            Entry::Is(Command::RotorOut {
-                failed,
-                thrust,
-                roll,
-                pitch,
-                yaw,
-                floor,
-            })
-        }
-        5..=255 => Entry::Refused(Refusal::BadKind),
-    }
-}
-
-// Entry i of a sheet, by its kind, its rotor byte and the body at its offset. Whether the offset is the right one is not asked here.
-pub fn read_entry(sheet: &[u8], i: u8) -> Entry
-    ensures { λ e. ⌜ Decoded (choiceNumber (kindOf (now (sheet .entry)) i) (rotorOf (now (sheet .entry)) i)) (commandAt (now (sheet .entry)) i) e ⌝ }
-{
-    chosen(
-        kind(sheet, i),
-        rotor(sheet, i),
+    with_numbers(
+        case,
         number_in(sheet, i, 0),
         number_in(sheet, i, 1),
         number_in(sheet, i, 2),

@@ -6,10 +6,10 @@ use Prim.Native.Nat.{ℕ}
 use lib.ListN.{length}
 use lib.Ieee.{Float}
 use Rattle.number.specs.Treat.{unitClamp}
-use Rattle.rules.specs.Refusals.{Told}
+use Rattle.refusals.specs.Told.{Told}
 use Rattle.rules.specs.Rows.{Row, quadRows, quadXRows, runOf, rowsOf, hexRows, octoRows}
 use Rattle.rules.specs.Torque.{torqueOf, achieved}
-use Rattle.rules.proofs.Determined.{Determined, equal-determined}
+use Rattle.general.proofs.Determined.{Determined, equal-determined}
 use Rattle.frame.specs.declared.MixerN.{MixerN}
 use Rattle.frame.specs.Mixer.{made, Mixed}
 use Rattle.frame.proofs.Determined as frame-determined

@@ -6,7 +6,8 @@ use Prim.Native.Nat.{ℕ}
 use lib.ListN.{length}
 use lib.Ieee.{Float}
 use borrow.Author.Tests.{ne-eqb}
-use Rattle.rules.specs.Refusals.{accepted, Told}
+use Rattle.refusals.specs.Numbers.{accepted}
+use Rattle.refusals.specs.Told.{Told}
 use Rattle.multi.specs.declared.Wrench.{Wrench}
 use Rattle.multi_thrust_floor.specs.declared.Answer.{Answer}
 use Rattle.multi_thrust_floor.specs.declared.Answer.the-variants.{Mixed, Refused}

@@ -4,7 +4,7 @@ use mathlib.Core.List.{List}
 use Prim.Native.Nat.{ℕ}
 use lib.ListN.{getD}
 use lib.Ieee.{Float, nan}
-use Rattle.rules.specs.Refusals.{Told}
+use Rattle.refusals.specs.Told.{Told}
 use Rattle.frame.specs.declared.MixerN.{MixerN}
 use Rattle.multi.specs.declared.Wrench.{Wrench}
 use Rattle.multi.specs.declared.Answer.{Answer}

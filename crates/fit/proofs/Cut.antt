@@ -1,12 +1,13 @@
 -- Where no motor's limit is under 1, the fit scale is 1; and the search for such a motor, from a place on. Assumes nothing.
 use mathlib.Core.Path.{_≡_, refl, sym, ap, _∙_}
-use mathlib.Core.Bool.{Bool, true, false, true≢false, _||_, cond}
+use mathlib.Core.Bool.{Bool, true, false, _||_, cond}
 use mathlib.Core.List.{List, [], _∷_}
 use Prim.Native.Nat.{ℕ, _+_, _≤_, _<_, min}
 use native.Mathlib.Numerals.{add-one}
 use lib.ListN.{length, getD, drop}
 use lib.Seq.{drop-cons}
 use lib.Ieee.{Float, nan, lt}
+use Rattle.general.proofs.Neither.{neither}
 use Rattle.binary32.specs.Arithmetic.{1f}
 use Rattle.fit.specs.Cut.{limitOf, isCut}
 use Rattle.fit.specs.Fit.{tightened, walk, settled, fitScale}
@@ -34,10 +35,6 @@ cut-over floor = past-shorter (λ bs ds. isCut floor bs ds ≡ false) (λ ds. re
 
 -- ---- no motor
 
-or-false : (p : Bool) {q : Bool} → p || q ≡ false → (p ≡ false) × (q ≡ false)
-or-false true e = absurd (true≢false e)
-or-false false e = (refl, e)
-
 uncut-step : (floor b d : Float) → lt (limitOf floor b d) 1f ≡ false → tightened floor 1f b d ≡ 1f
 uncut-step floor b d e =
     sym (limited-step floor 1f b d (not-above one-held)) ∙ ap (λ (t : Bool). cond t (limitOf floor b d) 1f) e
@@ -47,7 +44,7 @@ unfolding isCut walk
 uncut-walk floor [] ds e = refl
 uncut-walk floor (b ∷ bs) [] e = refl
 uncut-walk floor (b ∷ bs) (d ∷ ds) e =
-    let each = or-false (lt (limitOf floor b d) 1f) e in
+    let each = neither (lt (limitOf floor b d) 1f) (isCut floor bs ds) e in
     ap (λ (s : Float). walk floor s bs ds) (uncut-step floor b d (each .0)) ∙ uncut-walk floor bs ds (each .1)
 
 pub uncut-scale : (floor : Float) (bs ds : List Float) → isCut floor bs ds ≡ false → fitScale floor bs ds ≡ 1f

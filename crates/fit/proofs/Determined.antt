@@ -1,8 +1,8 @@
 -- The contract of `scale` determines its answer: two numbers that satisfy it are one, by bits. Assumes nothing.
-use mathlib.Core.Path.{_≡_, sym, _∙_}
 use mathlib.Core.List.{List}
 use lib.Ieee.{Float}
+use Rattle.general.proofs.Determined.{Determined, equal-determined}
 use Rattle.fit.specs.Fit.{Scaled}
 
-pub scale-determined : {floor : Float} {bs ds : List Float} {r q : Float} → Scaled floor bs ds r → Scaled floor bs ds q → r ≡ q
-scale-determined h k = h .is ∙ sym (k .is)
+pub scale-determined : {floor : Float} {bs ds : List Float} → Determined (Scaled floor bs ds)
+scale-determined r q h k = equal-determined r q (h .is) (k .is)

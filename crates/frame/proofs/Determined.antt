@@ -6,7 +6,7 @@ use Prim.Native.Nat.{ℕ}
 use lib.Ieee.{Float}
 use Rattle.rules.specs.Rows.{runOf, quadXRows}
 use Rattle.rules.specs.Torque.{achieved}
-use Rattle.rules.proofs.Determined.{Determined, equal-determined}
+use Rattle.general.proofs.Determined.{Determined, equal-determined}
 use Rattle.frame.specs.declared.MixerN.{MixerN}
 use Rattle.frame.specs.Mixer.{made, rowsIn, Mixed}
 

@@ -6,7 +6,8 @@ use lib.ListN.{take}
 use lib.Ieee.{Float}
 use Rattle.rules.specs.Rows.{runOf, quadRows, quadXRows}
 use Rattle.rules.specs.Plain.{rawSums, plainMotors}
-use Rattle.rules.specs.Promises.{Each, NotInfinity}
+use Rattle.general.specs.Each.{Each}
+use Rattle.rules.specs.Promises.{NotInfinity}
 use Rattle.rules.proofs.Rows.{quad-x-rows}
 use Rattle.frame.specs.Mixer.{made, rowsIn, Mixed}
 

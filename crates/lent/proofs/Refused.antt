@@ -7,7 +7,7 @@ use native.Mathlib.Omega.{arith}
 use lib.Dec.{eqb}
 use lib.ListN.{length}
 use lib.Ieee.{Float}
-use Rattle.rules.specs.Refusals.{accepted}
+use Rattle.refusals.specs.Numbers.{accepted}
 use Rattle.sheet.specs.declared.Verdict.{Verdict}
 use Rattle.sheet_run.specs.Run.{judgedFor, Ran}
 use Rattle.lent.specs.Five.{mixer, five, FloatsOf}

@@ -3,7 +3,7 @@
 use mathlib.Core.Path.{_≡_}
 use mathlib.Core.List.{List}
 use Prim.Native.Nat.{ℕ}
-use Rattle.rules.proofs.Determined.{equal-determined}
+use Rattle.general.proofs.Determined.{equal-determined}
 use Rattle.lines.specs.Lines.{linesOf, refusedLine, Written}
 
 -- what the text is afterwards, and how many bytes were written

@@ -8,7 +8,7 @@ use lib.Ieee.{Float}
 use Rattle.number.specs.Treat.{unitClamp}
 use Rattle.rules.specs.Rows.{Row, runOf, hexRows, octoRows}
 use Rattle.rules.specs.Multi.{rowsRefused}
-use Rattle.rules.proofs.Determined.{Determined, equal-determined}
+use Rattle.general.proofs.Determined.{Determined, equal-determined}
 use Rattle.multi.specs.declared.Wrench.{Wrench}
 use Rattle.multi.specs.declared.Answer.{Answer}
 use Rattle.multi.specs.declared.Answer.the-variants.{Mixed as mixed, Refused as refused}

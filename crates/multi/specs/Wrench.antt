@@ -7,7 +7,7 @@ use lib.ListN.{length}
 use lib.Ieee.{Float}
 use Rattle.rules.specs.Rows.{Row, rowsOf}
 use Rattle.rules.specs.Multi.{wrenchMotors, rowsRefused}
-use Rattle.rules.specs.Refusals.{accepted, badRows}
+use Rattle.refusals.specs.Numbers.{accepted, badRows}
 use Rattle.rules.specs.Promises.{InUnit}
 use Rattle.multi.specs.declared.Wrench.{Wrench}
 use Rattle.multi.specs.declared.Answer.{Answer}

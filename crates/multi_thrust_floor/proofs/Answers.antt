@@ -11,7 +11,7 @@ use Rattle.number.proofs.Choice.{taken, left}
 use Rattle.rules.specs.Rows.{Row, rowsOf, runOf}
 use Rattle.rules.specs.Command.{deltas}
 use Rattle.rules.specs.Multi.{rowsRefused}
-use Rattle.rules.specs.Refusals.{accepted, badRows}
+use Rattle.refusals.specs.Numbers.{accepted, badRows}
 use Rattle.rules.specs.ThrustFloor.{thrustFloorScale, thrustFloorMotors}
 use Rattle.rules.proofs.Runs.{rows-count}
 use Rattle.rules.proofs.Keeps.{thrust-floor-keeps}

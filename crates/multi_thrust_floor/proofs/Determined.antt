@@ -3,7 +3,7 @@ use mathlib.Core.Path.{_≡_, refl, ap₂}
 use mathlib.Core.List.{List}
 use lib.Ieee.{Float}
 use Rattle.rules.specs.Rows.{Row, hexRows, octoRows}
-use Rattle.rules.proofs.Determined.{Determined, equal-determined}
+use Rattle.general.proofs.Determined.{Determined, equal-determined}
 use Rattle.multi.specs.declared.Wrench.{Wrench}
 use Rattle.multi_thrust_floor.specs.declared.Answer.{Answer}
 use Rattle.multi_thrust_floor.specs.declared.Answer.the-variants.{Mixed as mixed, Refused as refused}

@@ -6,7 +6,7 @@ use lib.ListN.{length}
 use lib.Ieee.{Float}
 use Rattle.rules.specs.Rows.{rowsOf}
 use Rattle.rules.specs.Multi.{rowsRefused}
-use Rattle.rules.specs.Refusals.{accepted, badRows}
+use Rattle.refusals.specs.Numbers.{accepted, badRows}
 use Rattle.multi.specs.declared.Wrench.{Wrench}
 use Rattle.multi_thrust_floor.specs.declared.Answer.{Answer}
 use Rattle.multi_thrust_floor.specs.Floored.{flooredMotors, numberOf, Mixed}

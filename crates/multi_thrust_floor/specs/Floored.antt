@@ -8,7 +8,7 @@ use lib.ListN.{length}
 use lib.Ieee.{Float}
 use Rattle.rules.specs.Rows.{Row, rowsOf}
 use Rattle.rules.specs.Multi.{rowsRefused}
-use Rattle.rules.specs.Refusals.{accepted, badRows}
+use Rattle.refusals.specs.Numbers.{accepted, badRows}
 use Rattle.rules.specs.ThrustFloor.{thrustFloorMotors, thrustFloorScale}
 use Rattle.rules.specs.Promises.{ThrustFloorKeeps}
 use Rattle.multi.specs.declared.Wrench.{Wrench}

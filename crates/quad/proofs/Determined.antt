@@ -6,7 +6,7 @@ use Prim.Native.Nat.{ℕ}
 use lib.Ieee.{Float}
 use Rattle.rules.specs.Rows.{quadRows}
 use Rattle.rules.specs.Torque.{torqueOf}
-use Rattle.rules.proofs.Determined.{Determined, equal-determined}
+use Rattle.general.proofs.Determined.{Determined, equal-determined}
 use Rattle.quad.specs.declared.QuadMixer.{QuadMixer}
 use Rattle.quad.specs.Mixes.{PlainGives, ThrustFloorGives, PriorityGives, AirmodeGives, RotorOutGives}
 use Rattle.quad.specs.State.{fresh, Mixed}

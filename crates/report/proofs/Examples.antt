@@ -9,9 +9,10 @@ use Rattle.fit.specs.Fit.{limits, motorLimit, tightened, walk, settled, fitScal
 use Rattle.rules.specs.Rows.{quadRows}
 use Rattle.rules.specs.Command.{lifted, delta, deltas}
 use Rattle.rules.specs.ThrustFloor.{oneScale, scaledMotor, scaledMotors, thrustFloorScale, thrustFloorMotors}
-use Rattle.rules.specs.Refusals.{first, atEntry}
+use Rattle.refusals.specs.Told.{first, atEntry}
 use Rattle.entries.specs.Layout.{bodySize, bodyAt, numberIn}
-use Rattle.entries.specs.Entry.{failedOf, commandOf, commandAt, choiceNumber}
+use Rattle.entries.specs.Choice.{failedOf, caseOf, choiceNumber}
+use Rattle.entries.specs.Entry.{commandOf, commandWith, commandAt}
 use Rattle.sheet.specs.Table.{entryNumber, headNumber, endNumber, entriesTold, judged}
 use Rattle.sheet_run.specs.Run.{called, commandsFrom, floatBytes, answersOf, judgedFor}
 use Rattle.text.specs.Digits.{hexOf, decimalWithin, decimalOf}
@@ -45,5 +46,5 @@ half : List ℕ
 half = 32 ∷ 51 ∷ 102 ∷ 48 ∷ 48 ∷ 48 ∷ 48 ∷ 48 ∷ 48 ∷ []
 
 one-entry : printed (entry ++ body) ≡ (48 ∷ 32 ∷ 49 ∷ []) ++ quarter ++ quarter ++ three-quarters ++ three-quarters ++ half ++ (10 ∷ [])
-unfolding entry body quarter three-quarters half add sub mul div neg lt le eq ofBits toBits treated clamped limited floorClamp littleEndian bytesOf readAt limits motorLimit tightened walk settled fitScale quadRows lifted delta deltas oneScale scaledMotor scaledMotors thrustFloorScale thrustFloorMotors first atEntry bodySize bodyAt numberIn failedOf commandOf commandAt choiceNumber entryNumber headNumber endNumber entriesTold judged called commandsFrom floatBytes answersOf judgedFor hexOf decimalWithin decimalOf wordAt lineOf linesFrom linesOf printed
+unfolding entry body quarter three-quarters half add sub mul div neg lt le eq ofBits toBits treated clamped limited floorClamp littleEndian bytesOf readAt limits motorLimit tightened walk settled fitScale quadRows lifted delta deltas oneScale scaledMotor scaledMotors thrustFloorScale thrustFloorMotors first atEntry bodySize bodyAt numberIn failedOf caseOf commandOf commandWith commandAt choiceNumber entryNumber headNumber endNumber entriesTold judged called commandsFrom floatBytes answersOf judgedFor hexOf decimalWithin decimalOf wordAt lineOf linesFrom linesOf printed
 one-entry = refl

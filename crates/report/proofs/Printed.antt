@@ -7,7 +7,8 @@ use native.Mathlib.Omega.{arith}
 use lib.ListN.{length}
 use Rattle.wire.specs.Bytes.{readAt, writeAt}
 use Rattle.wire.proofs.LittleEndian.{readAt-within}
-use Rattle.rules.specs.Refusals.{accepted, Told}
+use Rattle.refusals.specs.Numbers.{accepted}
+use Rattle.refusals.specs.Told.{Told}
 use Rattle.quad.specs.declared.QuadMixer.{QuadMixer}
 use Rattle.quad.specs.State.{fresh}
 use Rattle.entries.specs.declared.refusal.Refusal.{Refusal}

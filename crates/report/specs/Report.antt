@@ -3,7 +3,7 @@ use mathlib.Core.Bool.{cond}
 use mathlib.Core.List.{List}
 use Prim.Native.Nat.{ℕ, _*_}
 use lib.Dec.{eqb}
-use Rattle.rules.specs.Refusals.{accepted}
+use Rattle.refusals.specs.Numbers.{accepted}
 use Rattle.quad.specs.State.{fresh}
 use Rattle.entries.specs.Layout.{answerSize}
 use Rattle.sheet.specs.Table.{maxEntries}

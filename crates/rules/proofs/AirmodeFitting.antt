@@ -24,8 +24,10 @@ use Rattle.fit.specs.Fit.{EachMotor}
 use Rattle.rules.specs.Rows.{Row}
 use Rattle.rules.specs.Command.{roll, pitch, yaw, delta, deltas}
 use Rattle.rules.specs.Airmode.{spread, spreadScale, unshifted, shift, shifted, airmodeMotors}
-use Rattle.rules.specs.Promises.{Each, Fits, SumRounded}
-use Rattle.rules.proofs.Lists.{each-of-map, each-map, each-motor, each-same}
+use Rattle.general.specs.Each.{Each}
+use Rattle.rules.specs.Promises.{Fits, SumRounded}
+use Rattle.general.proofs.Lists.{each-of-map, each-map, each-same}
+use Rattle.rules.proofs.EachMotor.{each-motor}
 use Rattle.rules.proofs.Clamp.{Floor, Inside, inside-number, limited-floor, delta-finite}
 use Rattle.rules.proofs.Extremes.{largest-is, least-is}
 use Rattle.rules.proofs.FittingSum.{scale-one-second, fitted, fitting-sum}

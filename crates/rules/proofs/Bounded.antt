@@ -23,8 +23,9 @@ use Rattle.rules.specs.Priority.{priorityMotor, priorityMotors}
 use Rattle.rules.specs.Airmode.{shifted, airmodeMotors}
 use Rattle.rules.specs.RotorOut.{tiltMotor, motorWithout, motorsWithout}
 use Rattle.rules.specs.Multi.{wrenchMotors}
-use Rattle.rules.specs.Promises.{Each, InUnit, RotorOutKeeps}
-use Rattle.rules.proofs.Lists.{each-mapped, each-at}
+use Rattle.general.specs.Each.{Each}
+use Rattle.rules.specs.Promises.{InUnit, RotorOutKeeps}
+use Rattle.general.proofs.Lists.{each-mapped, each-at}
 use Rattle.rules.proofs.Clamp.{Floor, Inside, zero-floor, limited-floor, inside-unit, treated-finite, clamp-inside, unit-clamp-between}
 
 -- ---- motors that were clamped

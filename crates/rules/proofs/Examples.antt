@@ -29,8 +29,9 @@ use Rattle.rules.specs.Command.{roll, pitch, yaw, lifted, collective, de
 use Rattle.rules.specs.Extremes.{larger, walked, best, largest}
 use Rattle.rules.specs.Plain.{rawSum, rawSums}
 use Rattle.rules.specs.Priority.{yawGroup, rollPitchGroup}
-use Rattle.rules.specs.Promises.{Each, Fits, FitsBothOrders, NotInfinity, ThrustFloorKeeps, PriorityKeeps, AirmodeKeeps}
-use Rattle.rules.proofs.Lists.{each-map}
+use Rattle.general.specs.Each.{Each}
+use Rattle.rules.specs.Promises.{Fits, FitsBothOrders, NotInfinity, ThrustFloorKeeps, PriorityKeeps, AirmodeKeeps}
+use Rattle.general.proofs.Lists.{each-map}
 
 -- ---- the commands, a table of bit patterns
 

@@ -11,7 +11,7 @@ use Rattle.binary32.proofs.Magnitude.{Number}
 use Rattle.binary32.proofs.Comparison.{less-trans, le-trans, not-under, not-over}
 use Rattle.number.proofs.Choice.{by-test}
 use Rattle.rules.specs.Extremes.{larger, smaller, walked, best, largest, least}
-use Rattle.rules.specs.Promises.{Each}
+use Rattle.general.specs.Each.{Each}
 
 -- ---- what holds of each holds of the one that is held
 

@@ -22,8 +22,10 @@ use Rattle.number.specs.Treat.{floorClamp}
 use Rattle.fit.specs.Fit.{fitScale}
 use Rattle.fit.proofs.Fitting.{scale-fitting}
 use Rattle.rules.specs.Rows.{Row}
-use Rattle.rules.specs.Promises.{Each, SumRounded}
-use Rattle.rules.proofs.Lists.{map-fits, each-motor}
+use Rattle.general.specs.Each.{Each}
+use Rattle.rules.specs.Promises.{SumRounded}
+use Rattle.general.proofs.Lists.{map-fits}
+use Rattle.rules.proofs.EachMotor.{each-motor}
 use Rattle.rules.proofs.Clamp.{Floor, Inside, inside-number, inside, clamp-stays}
 
 -- ---- a scale of 1 leaves a number as it is, by bits

@@ -19,8 +19,9 @@ use Rattle.fit.proofs.Bounded.{scale-between, scale-fits}
 use Rattle.rules.specs.Rows.{Row}
 use Rattle.rules.specs.Command.{deltas}
 use Rattle.rules.specs.ThrustFloor.{oneScale, scaledMotor, scaledMotors, thrustFloorMotors}
-use Rattle.rules.specs.Promises.{Each, Ordered}
-use Rattle.rules.proofs.Lists.{each-mapped, each-at, map-at, number-place}
+use Rattle.general.specs.Each.{Each}
+use Rattle.rules.specs.Promises.{Ordered}
+use Rattle.general.proofs.Lists.{each-mapped, each-at, map-at, number-place}
 use Rattle.rules.proofs.Clamp.{Floor, limited-floor, clamp-order, delta-finite, collective-floor}
 
 -- ---- a map that keeps the order of numbers keeps that of a list's, place by place

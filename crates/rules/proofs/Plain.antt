@@ -23,8 +23,9 @@ use Rattle.rules.specs.Command.{roll, pitch, yaw}
 use Rattle.rules.specs.Extremes.{largest}
 use Rattle.rules.specs.Plain.{rawSum, rawSums, loweredBy, lowered, lowerLimited, plainMotors}
 use Rattle.rules.specs.Frame.{frameMotors}
-use Rattle.rules.specs.Promises.{Each, InUnit, OneOf, 2^24}
-use Rattle.rules.proofs.Lists.{each-mapped, each-map, map-at, map-fits, number-place}
+use Rattle.general.specs.Each.{Each}
+use Rattle.rules.specs.Promises.{InUnit, OneOf, 2^24}
+use Rattle.general.proofs.Lists.{each-mapped, each-map, map-at, map-fits, number-place}
 use Rattle.rules.proofs.Clamp.{zero-floor, treated-finite}
 use Rattle.rules.proofs.Extremes.{largest-is, NoNan, largest-infinite}
 use Rattle.rules.proofs.Bounded.{each-clamped}

@@ -12,8 +12,9 @@ use Rattle.number.specs.Treat.{limited}
 use Rattle.rules.specs.Rows.{Row, noRow}
 use Rattle.rules.specs.Command.{roll, pitch, yaw, collective}
 use Rattle.rules.specs.Priority.{yawGroup, rollPitchGroup, yawScale, rollPitchScale, priorityMotor, priorityMotors}
-use Rattle.rules.specs.Promises.{Each, SumRounded, FitsBothOrders, rollPitchSum, prioritySum, AllFitBothOrders}
-use Rattle.rules.proofs.Lists.{each-same, each-at, map-at}
+use Rattle.general.specs.Each.{Each}
+use Rattle.rules.specs.Promises.{SumRounded, FitsBothOrders, rollPitchSum, prioritySum, AllFitBothOrders}
+use Rattle.general.proofs.Lists.{each-same, each-at, map-at}
 use Rattle.rules.proofs.Clamp.{Floor, limited-floor, treated-finite}
 use Rattle.rules.proofs.FittingSum.{Fitted, scale-one-first, fitting-sum, fitting-scale}
 

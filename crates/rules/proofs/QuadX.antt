@@ -24,8 +24,9 @@ use Rattle.rules.specs.Command.{roll, pitch, yaw}
 use Rattle.rules.specs.Extremes.{larger, walked, best, largest}
 use Rattle.rules.specs.Plain.{rawSum, rawSums, loweredBy, lowered, lowerLimited, plainMotors}
 use Rattle.rules.specs.Frame.{frameMotors}
-use Rattle.rules.specs.Promises.{Each, NotInfinity}
-use Rattle.rules.proofs.Lists.{each-mapped, each-of-map, each-map, each-same, take-mapped}
+use Rattle.general.specs.Each.{Each}
+use Rattle.rules.specs.Promises.{NotInfinity}
+use Rattle.general.proofs.Lists.{each-mapped, each-of-map, each-map, each-same, take-mapped}
 use Rattle.rules.proofs.Clamp.{zero-floor, treated-finite, treated-stays, clamp-under, clamp-stays}
 use Rattle.rules.proofs.Extremes.{NoNan, largest-is, largest-with-first}
 use Rattle.rules.proofs.Plain.{plain-no-nan}

@@ -2,10 +2,11 @@
 -- are at most 64 of these.
 -- Assumes nothing.
 use mathlib.Core.Path.{_≡_, refl}
-use mathlib.Core.Bool.{Bool, true, false, not, _||_}
+use mathlib.Core.Bool.{false, not}
 use Prim.Native.Nat.{ℕ, _*_, _≤_}
-use borrow.Author.Tests.{eqb-true, ltb-false}
+use borrow.Author.Tests.{eqb-true, ltb-false, not-false}
 use lib.Dec.{ltb, eqb}
+use Rattle.general.proofs.Neither.{neither}
 use Rattle.rules.specs.Rows.{rowsOf, runOf, quadRows, quadXRows, hexRows, octoRows}
 use Rattle.rules.specs.Multi.{maxOutputs, rowsRefused}
 
@@ -29,21 +30,13 @@ octo-rows = refl
 
 -- ---- refusal 10
 
--- where neither p holds nor the denial of q, q holds
-second-holds : (p q : Bool) → (p || not q) ≡ false → q ≡ true
-second-holds p true h = refl
-second-holds false false h = cc
-second-holds true false h = cc
-
--- where neither of two holds, the first does not
-first-fails : (p q : Bool) → p || q ≡ false → p ≡ false
-first-fails false q h = refl
-first-fails true q h = cc
+-- neither of its two tests holds of a run that is not refused
+tests : (floats outputs : ℕ) → rowsRefused floats outputs ≡ false → (ltb maxOutputs outputs ≡ false) × (not (eqb floats (4 * outputs)) ≡ false)
+unfolding rowsRefused
+tests floats outputs = neither (ltb maxOutputs outputs) (not (eqb floats (4 * outputs)))
 
 pub four-each : (floats outputs : ℕ) → rowsRefused floats outputs ≡ false → floats ≡ 4 * outputs
-unfolding rowsRefused
-four-each floats outputs h = eqb-true floats (4 * outputs) (second-holds (ltb maxOutputs outputs) (eqb floats (4 * outputs)) h)
+four-each floats outputs h = eqb-true floats (4 * outputs) (not-false (eqb floats (4 * outputs)) (tests floats outputs h .1))
 
 pub within-most : (floats outputs : ℕ) → rowsRefused floats outputs ≡ false → outputs ≤ maxOutputs
-unfolding rowsRefused
-within-most floats outputs h = ltb-false maxOutputs outputs (first-fails (ltb maxOutputs outputs) (not (eqb floats (4 * outputs))) h)
+within-most floats outputs h = ltb-false maxOutputs outputs (tests floats outputs h .0)

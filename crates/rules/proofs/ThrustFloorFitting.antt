@@ -12,8 +12,10 @@ use Rattle.fit.specs.Fit.{EachMotor}
 use Rattle.rules.specs.Rows.{Row}
 use Rattle.rules.specs.Command.{roll, pitch, yaw, collective, delta, deltas}
 use Rattle.rules.specs.ThrustFloor.{oneScale, scaledMotor, scaledMotors, thrustFloorScale, thrustFloorMotors}
-use Rattle.rules.specs.Promises.{Each, Fits, SumRounded}
-use Rattle.rules.proofs.Lists.{each-of-map, each-motor}
+use Rattle.general.specs.Each.{Each}
+use Rattle.rules.specs.Promises.{Fits, SumRounded}
+use Rattle.general.proofs.Lists.{each-of-map}
+use Rattle.rules.proofs.EachMotor.{each-motor}
 use Rattle.rules.proofs.Clamp.{Floor, limited-floor, delta-finite, collective-floor}
 use Rattle.rules.proofs.FittingSum.{scale-one-first, fitting-sum, fitting-scale}
 

@@ -9,6 +9,5 @@ pub mod RotorOut
 pub mod Torque
 pub mod Frame
 pub mod Multi
-pub mod Refusals
 pub mod Promises
 pub mod Figures

@@ -11,6 +11,7 @@ use Rattle.binary32.specs.Arithmetic.{_+f_, 0f, 1f}
 use Rattle.binary32.specs.Rounding.{rounding}
 use Rattle.binary32.specs.Nearest.{Nearest, TiesToEven}
 use Rattle.binary32.specs.Range.{Between, exactSum, SumWithin}
+use Rattle.general.specs.Each.{Each}
 use Rattle.number.specs.Treat.{limited}
 use Rattle.fit.specs.Fit.{EachMotor}
 use Rattle.rules.specs.Rows.{Row, noRow, quadRows, quadXRows}
@@ -20,11 +21,6 @@ use Rattle.rules.specs.Plain.{rawSums, plainMotors}
 use Rattle.rules.specs.Priority.{yawGroup, rollPitchGroup}
 
 -- ---- the words
-
--- P holds of each
-abbrev pub Each : {A : Type 0} → (A → Type 0) → List A → Type 0
-Each P [] = Unit {0}
-Each P (x ∷ xs) = P x × Each P xs
 
 -- bounded: "each motor [...] lies between the floor, first limited to 0..1 (non-finite: 0), and 1"
 abbrev pub Bounded : Float → List Float → Type 0

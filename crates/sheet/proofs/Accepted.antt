@@ -1,21 +1,21 @@
 -- What an accepted sheet is known by: it has passed every line of the table. Assumes nothing.
-use mathlib.Core.Path.{_≡_, refl, sym, _∙_}
-use mathlib.Core.Bool.{Bool, true, false, not, _||_}
+use mathlib.Core.Path.{_≡_, sym, _∙_}
+use mathlib.Core.Bool.{not}
 use mathlib.Core.List.{List}
 use Prim.Native.Nat.{ℕ, zero, suc, _+_, _≤_, _<_}
 use native.Mathlib.Nat.{add-zero, add-suc, suc-add, zero-add, not-suc-le-zero, le-of-suc-le-suc}
 use lib.Dec.{ltb, eqb}
 use lib.ListN.{length}
 use borrow.Author.Tests.{ltb-false, eqb-true, eqb-false, not-false}
-use Rattle.rules.specs.Refusals.{accepted}
-use Rattle.rules.proofs.Refusals.{not-given, first-passed, entry-passed}
+use Rattle.general.proofs.Neither.{neither}
+use Rattle.refusals.specs.Numbers.{accepted}
+use Rattle.refusals.proofs.First.{not-given, first-passed, entry-passed}
 use Rattle.entries.specs.Layout.{versionOf, countOf, lengthField, entryAt, kindOf, rotorOf, offsetOf, bodyAt}
-use Rattle.entries.specs.declared.command.Command.{Command}
-use Rattle.entries.specs.declared.command.Entry.the-variants.{Refused}
+use Rattle.entries.specs.declared.choice.Choice.the-variants.{Refused}
 use Rattle.entries.specs.declared.refusal.Refusal.{Refusal}
 use Rattle.entries.specs.Refusal.{numberOf}
-use Rattle.entries.specs.Entry.{choiceNumber, Decoded}
-use Rattle.entries.proofs.Answers.{never-accepted, decoded-refusal}
+use Rattle.entries.specs.Choice.{choiceNumber, ChosenBy}
+use Rattle.entries.proofs.Answers.{never-accepted, chosen-refusal}
 use Rattle.sheet.proofs.Entry.{same, entry-good}
 use Rattle.sheet.specs.Table.{entryNumber, maxEntries, headNumber, endNumber, entriesTold, judged}
 
@@ -56,11 +56,6 @@ end-good s i (suc left) h = end-good s (suc i) left (entry-passed _ _ _ h .1)
 
 -- ---- the sheet
 
-neither : (p q : Bool) → p || q ≡ false → (p ≡ false) × (q ≡ false)
-neither false false e = (refl, refl)
-neither false true e = (refl, e)
-neither true q e = let no : true ≡ false = e in (e, cc)
-
 pub is-accepted : (s : List ℕ) → judged s .number ≡ accepted → Accepted s
 unfolding judged headNumber endNumber
 is-accepted s h =
@@ -80,7 +75,7 @@ is-accepted s h =
     }
 
 -- none of its entries is refused by its kind or its rotor byte
-pub never-refused : {s : List ℕ} {i : ℕ} {c : Command} {r : Refusal} → Accepted s → i < countOf s → Decoded (choiceNumber (kindOf s i) (rotorOf s i)) c (Refused r) → ⊥
+pub never-refused : {s : List ℕ} {i : ℕ} {r : Refusal} → Accepted s → i < countOf s → ChosenBy (kindOf s i) (rotorOf s i) (Refused r) → ⊥
 never-refused {s} {i} {r} known under h =
-    let number : numberOf r ≡ accepted = sym (decoded-refusal h) ∙ known .entries i under .chosen in
+    let number : numberOf r ≡ accepted = sym (chosen-refusal h) ∙ known .entries i under .chosen in
     eqb-false (numberOf r) accepted (never-accepted r) number

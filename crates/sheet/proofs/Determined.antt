@@ -3,8 +3,9 @@ use mathlib.Core.Path.{_≡_, refl, sym, ap, _∙_}
 use mathlib.Core.List.{List}
 use Prim.Native.Nat.{ℕ}
 use borrow.Author.Tests.{eqb-false}
-use Rattle.rules.specs.Refusals.{accepted, Told}
-use Rattle.rules.proofs.Determined.{Determined}
+use Rattle.refusals.specs.Numbers.{accepted}
+use Rattle.refusals.specs.Told.{Told}
+use Rattle.general.proofs.Determined.{Determined}
 use Rattle.entries.specs.Refusal.{numberOf}
 use Rattle.entries.proofs.Answers.{never-accepted}
 use Rattle.entries.proofs.Determined.{number-tells}

@@ -4,7 +4,8 @@ use mathlib.Core.List.{List}
 use Prim.Native.Nat.{ℕ, _≤_, _<_}
 use lib.ListN.{length}
 use borrow.Author.Tests.{lt-ltb, le-ltb, eq-eqb, ne-eqb}
-use Rattle.rules.specs.Refusals.{accepted, tooShort, badVersion, tooMany, badLength, first, alone, atEntry}
+use Rattle.refusals.specs.Numbers.{accepted, tooShort, badVersion, tooMany, badLength}
+use Rattle.refusals.specs.Told.{first, alone, atEntry}
 use Rattle.entries.specs.declared.refusal.Refusal.{Refusal}
 use Rattle.entries.specs.Refusal.{numberOf}
 use Rattle.entries.proofs.Answers.{never-accepted}

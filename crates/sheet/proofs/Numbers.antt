@@ -1,66 +1,69 @@
--- What a sheet by itself is told is at most 8: refusal 9 is about an output. Assumes nothing.
-use mathlib.Core.Bool.{Bool, true, false, cond, not, _&&_, _||_}
+-- The numbers that a sheet by itself can be told, and that 9, which is about an output, is none of them. Assumes nothing.
+use mathlib.Core.Path.{_≡_, subst}
+use mathlib.Core.Bool.{Bool, false, not, _&&_, _||_}
 use mathlib.Core.List.{List, [], _∷_}
-use Prim.Native.Nat.{ℕ, zero, suc, _≤_}
-use native.Mathlib.Omega.{arith}
-use lib.Dec.{ltb, eqb}
+use Prim.Native.Nat.{ℕ, zero, suc}
+use lib.Dec.{T, ltb, eqb}
 use lib.ListN.{length}
-use Rattle.rules.specs.Refusals.{accepted, given, first, Told, atEntry}
+use Rattle.refusals.specs.Numbers.{accepted, tooShort, badVersion, tooMany, badLength, badKind, badRotor, badOffset, badEnd, shortOutput}
+use Rattle.refusals.specs.Told.{given}
+use Rattle.refusals.proofs.First.{given-keeps, first-keeps, entry-keeps}
 use Rattle.entries.specs.Layout.{versionOf, countOf, lengthField, entryAt, kindOf, rotorOf, offsetOf, bodyAt}
-use Rattle.entries.specs.Entry.{choiceNumber}
-use Rattle.sheet.specs.Table.{entryNumber, maxEntries, headNumber, endNumber, entriesTold, judged}
+use Rattle.entries.specs.Choice.{choiceNumber}
+use Rattle.sheet.specs.Table.{maxEntries, entryNumber, headNumber, endNumber, entriesTold, judged}
 
-given-most : (applies : Bool) (n : ℕ) → n ≤ 8 → given applies n ≤ 8
-given-most true n h = h
-given-most false n h = omega arith
+-- ---- a sheet's own numbers
 
-first-most : (n : ℕ) (ns : List ℕ) → n ≤ 8 → first ns ≤ 8 → first (n ∷ ns) ≤ 8
-unfolding first
-first-most n ns h k = go (eqb n accepted)
-  where
-    go : (t : Bool) → cond t (first ns) n ≤ 8
-    go true = k
-    go false = h
+abbrev pub sheetNumbers : List ℕ
+sheetNumbers = accepted ∷ tooShort ∷ badVersion ∷ tooMany ∷ badLength ∷ badKind ∷ badRotor ∷ badOffset ∷ badEnd ∷ []
 
-none-most : first [] ≤ 8
-unfolding first
-none-most = omega arith
+-- whether n is one of some numbers
+abbrev pub isOneOf : List ℕ → ℕ → Bool
+isOneOf [] n = false
+isOneOf (m ∷ ms) n = eqb m n || isOneOf ms n
 
-at-most : (n i : ℕ) (later : Told) → n ≤ 8 → later .number ≤ 8 → atEntry n i later .number ≤ 8
-unfolding atEntry
-at-most n i later h k = go (eqb n accepted)
-  where
-    go : (t : Bool) → cond t later (record { number = n; entry = i }) .number ≤ 8
-    go true = k
-    go false = h
+abbrev pub SheetNumber : ℕ → Type 0
+SheetNumber n = T (isOneOf sheetNumbers n)
 
--- a line more, in front of others
-line-most : (applies : Bool) (n : ℕ) (ns : List ℕ) → n ≤ 8 → first ns ≤ 8 → first (given applies n ∷ ns) ≤ 8
-line-most applies n ns h k = first-most (given applies n) ns (given-most applies n h) k
+-- ---- whatever a sheet is told is one of them: an entry, the entries, the sheet
 
--- ---- an entry, the entries, the sheet
+-- a line of the table
+line : (applies : Bool) (n : ℕ) → SheetNumber n → SheetNumber (given applies n)
+line = given-keeps SheetNumber tt
 
-choice-most : (kind rotor : ℕ) → choiceNumber kind rotor ≤ 8
+choice-own : (kind rotor : ℕ) → SheetNumber (choiceNumber kind rotor)
 unfolding choiceNumber
-choice-most kind rotor = line-most (ltb 4 kind) 5 _ (omega arith) (line-most (not (eqb kind 4) && not (eqb rotor 0)) 6 [] (omega arith) none-most)
+choice-own kind rotor = first-keeps SheetNumber tt _
+    (line (ltb 4 kind) badKind tt, (line (not (eqb kind 4) && not (eqb rotor 0)) badRotor tt, tt))
 
-entry-most : (s : List ℕ) (i end : ℕ) → entryNumber s i end ≤ 8
+entry-own : (s : List ℕ) (i end : ℕ) → SheetNumber (entryNumber s i end)
 unfolding entryNumber
-entry-most s i end = first-most _ _ (choice-most (kindOf s i) (rotorOf s i)) (line-most (not (eqb (offsetOf s i) end)) 7 [] (omega arith) none-most)
+entry-own s i end =
+    first-keeps SheetNumber tt _ (choice-own (kindOf s i) (rotorOf s i), (line (not (eqb (offsetOf s i) end)) badOffset tt, tt))
 
-head-most : (s : List ℕ) → headNumber s ≤ 8
+head-own : (s : List ℕ) → SheetNumber (headNumber s)
 unfolding headNumber
-head-most s =
-    line-most (ltb (length s) 4) 1 _ (omega arith)
-    (line-most (not (eqb (versionOf s) 1)) 2 _ (omega arith)
-    (line-most (ltb maxEntries (countOf s)) 3 _ (omega arith)
-    (line-most (not (eqb (lengthField s) (length s)) || ltb (length s) (entryAt (countOf s))) 4 [] (omega arith) none-most)))
+head-own s = first-keeps SheetNumber tt _ (
+  line (ltb (length s) 4) tooShort tt,
+  (
+    line (not (eqb (versionOf s) 1)) badVersion tt,
+    (
+      line (ltb maxEntries (countOf s)) tooMany tt,
+      (line (not (eqb (lengthField s) (length s)) || ltb (length s) (entryAt (countOf s))) badLength tt, tt),
+    ),
+  ),
+)
 
-entries-most : (s : List ℕ) (i left : ℕ) → entriesTold s i left .number ≤ 8
+entries-own : (s : List ℕ) (i left : ℕ) → SheetNumber (entriesTold s i left .number)
 unfolding entriesTold endNumber
-entries-most s i zero = given-most (not (eqb (bodyAt s (countOf s)) (length s))) 8 (omega arith)
-entries-most s i (suc left) = at-most _ _ _ (entry-most s i (bodyAt s i)) (entries-most s (suc i) left)
+entries-own s i zero = line (not (eqb (bodyAt s (countOf s)) (length s))) badEnd tt
+entries-own s i (suc left) = entry-keeps SheetNumber _ _ _ (entry-own s i (bodyAt s i)) (entries-own s (suc i) left)
 
-pub judged-most : (s : List ℕ) → judged s .number ≤ 8
+pub judged-own : (s : List ℕ) → SheetNumber (judged s .number)
 unfolding judged
-judged-most s = at-most (headNumber s) 0 _ (head-most s) (entries-most s 0 (countOf s))
+judged-own s = entry-keeps SheetNumber _ 0 _ (head-own s) (entries-own s 0 (countOf s))
+
+-- ---- so it is never 9
+
+pub never-nine : (s : List ℕ) → judged s .number ≡ shortOutput → ⊥
+never-nine s e = subst SheetNumber e (judged-own s)

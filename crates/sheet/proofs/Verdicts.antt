@@ -1,7 +1,8 @@
 -- What a verdict says of the number that is told. Assumes nothing.
 use mathlib.Core.Path.{_≡_, sym, ap}
 use Prim.Native.Nat.{ℕ}
-use Rattle.rules.specs.Refusals.{accepted, Told}
+use Rattle.refusals.specs.Numbers.{accepted}
+use Rattle.refusals.specs.Told.{Told}
 use Rattle.entries.specs.declared.refusal.Refusal.{Refusal}
 use Rattle.entries.specs.Refusal.{numberOf}
 use Rattle.sheet.specs.declared.Verdict.{Verdict}

@@ -8,15 +8,11 @@ use native.Mathlib.Omega.{arith}
 use lib.Dec.{eqb}
 use lib.ListN.{length}
 use borrow.Author.Tests.{eq-eqb, ne-eqb}
-use Rattle.rules.specs.Refusals.{accepted, badEnd, alone, atEntry}
-use Rattle.entries.specs.declared.command.Command.{Command}
-use Rattle.entries.specs.declared.command.Entry.the-variants.{Is, Refused}
-use Rattle.entries.specs.declared.refusal.Refusal.{Refusal}
+use Rattle.refusals.specs.Numbers.{accepted, badEnd}
+use Rattle.refusals.specs.Told.{Told, alone}
+use Rattle.refusals.proofs.First.{entry-passed, entry-decides, told-later}
 use Rattle.entries.specs.Layout.{countOf, entryAt, kindOf, bodySize, bodyAt}
-use Rattle.entries.specs.Refusal.{numberOf}
-use Rattle.entries.specs.Entry.{Decoded}
-use Rattle.entries.proofs.Answers.{never-accepted, decoded-command, decoded-refusal}
-use Rattle.sheet.specs.Table.{entryNumber, endNumber, entriesTold}
+use Rattle.sheet.specs.Table.{entryNumber, entryTold, endNumber, entriesTold}
 
 -- ---- where the bodies end
 
@@ -51,15 +47,15 @@ pub one-less : (i k : ℕ) → i < k → k - i ≡ suc (k - (i + 1))
 one-less i k h = omega arith
 
 module _ (s : List ℕ) (i k : ℕ) (under : i < k) where
-  -- a command is passed
-  pub told-command : {c d : Command} → Decoded (entryNumber s i (bodyAt s i)) c (Is d) → entriesTold s i (k - i) ≡ entriesTold s (i + 1) (k - (i + 1))
-  unfolding entriesTold atEntry
-  told-command h = rw (one-less i k, add-one) (rw (decoded-command h .0))
+  -- an entry with which nothing is wrong is passed
+  pub told-passed : entryTold s i (bodyAt s i) .number ≡ accepted → entriesTold s i (k - i) ≡ entriesTold s (i + 1) (k - (i + 1))
+  unfolding entriesTold
+  told-passed h = rw (one-less i k, add-one) (told-later _ _ _ (entry-passed (entryNumber s i (bodyAt s i)) i (alone accepted) h .0))
 
-  -- a refusal is what is told, with the entry number
-  pub told-refusal : {c : Command} {r : Refusal} → Decoded (entryNumber s i (bodyAt s i)) c (Refused r) → entriesTold s i (k - i) ≡ record { number = numberOf r; entry = i }
-  unfolding entriesTold atEntry
-  told-refusal {r} h = rw (one-less i k) (rw (decoded-refusal h, never-accepted r))
+  -- a refusal is what is told
+  pub told-refused : {t : Told} → entryTold s i (bodyAt s i) ≡ t → eqb (t .number) accepted ≡ false → entriesTold s i (k - i) ≡ t
+  unfolding entriesTold
+  told-refused h d = rw (one-less i k) (entry-decides (entryNumber s i (bodyAt s i)) i _ h d)
 
 -- after the last entry the end of its body decides
 pub told-end : (s : List ℕ) (k : ℕ) → entriesTold s k (k - k) ≡ alone (endNumber s)

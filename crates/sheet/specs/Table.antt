@@ -5,12 +5,11 @@ use mathlib.Core.List.{List, [], _∷_}
 use Prim.Native.Nat.{ℕ, zero, suc}
 use lib.Dec.{ltb, eqb}
 use lib.ListN.{length}
-use Rattle.rules.specs.Refusals.{accepted, tooShort, badVersion, tooMany, badLength, badOffset, badEnd, given, first, Told, alone, atEntry}
+use Rattle.refusals.specs.Numbers.{accepted, tooShort, badVersion, tooMany, badLength, badOffset, badEnd}
+use Rattle.refusals.specs.Told.{given, first, Told, alone, atEntry}
 use Rattle.entries.specs.Layout.{versionOf, countOf, lengthField, entryAt, kindOf, rotorOf, offsetOf, bodyAt}
-use Rattle.entries.specs.declared.command.Entry.{Entry}
-use Rattle.entries.specs.declared.command.Entry.the-variants.{Is, Refused as entryRefused}
 use Rattle.entries.specs.Refusal.{numberOf}
-use Rattle.entries.specs.Entry.{choiceNumber}
+use Rattle.entries.specs.Choice.{choiceNumber}
 use Rattle.sheet.specs.declared.Verdict.{Verdict}
 use Rattle.sheet.specs.declared.Verdict.the-variants.{Accepted, Refused}
 
@@ -32,6 +31,10 @@ headNumber s =
 unfoldable pub entryNumber : List ℕ → ℕ → ℕ → ℕ
 entryNumber s i end = first (choiceNumber (kindOf s i) (rotorOf s i) ∷ given (not (eqb (offsetOf s i) end)) badOffset ∷ [])
 
+-- what entry i by itself is told: one of these with the entry number, or that nothing is wrong with it
+abbrev pub entryTold : List ℕ → ℕ → ℕ → Told
+entryTold s i end = atEntry (entryNumber s i end) i (alone accepted)
+
 -- "last body's end (k = 0: 4) is not the length"
 unfoldable pub endNumber : List ℕ → ℕ
 endNumber s = given (not (eqb (bodyAt s (countOf s)) (length s))) badEnd
@@ -49,8 +52,3 @@ judged s = atEntry (headNumber s) 0 (entriesTold s 0 (countOf s))
 abbrev pub toldBy : Verdict → Told
 toldBy Accepted = alone accepted
 toldBy (Refused r i) = record { number = numberOf r; entry = i }
-
--- an entry's answer, as the sheet's
-abbrev pub answeredAt : Entry → ℕ → Verdict
-answeredAt (Is c) i = Accepted
-answeredAt (entryRefused r) i = Refused r i

@@ -1,16 +1,16 @@
 // The command sheet as a whole: whether it is accepted.
 ghost use mathlib.Core.Path.{_≡_};
 ghost use Rattle.entries.specs.Layout.{countOf};
-ghost use Rattle.entries.specs.Entry.{commandAt, Decoded};
-ghost use Rattle.sheet.specs.Table.{entryNumber, entriesTold, judged, toldBy, answeredAt};
-use entries::command::Entry;
-use entries::command::read_entry;
+ghost use Rattle.sheet.specs.Table.{entryTold, entriesTold, judged, toldBy};
+use entries::choice::Choice;
+use entries::choice::choose;
 use entries::layout::body_size;
 use entries::layout::count;
 use entries::layout::entry_at;
 use entries::layout::kind;
 use entries::layout::length_field;
 use entries::layout::offset;
+use entries::layout::rotor;
 use entries::layout::version;
 use entries::refusal::Refusal;
 
@@ -53,39 +53,31 @@ fn check_entries(sheet: &[u8]) -> Verdict
     let mut end = entry_at(k);
     let mut i = 0;
     while i < k {
-        let e = check_entry(sheet, i, end);
-        let Entry::Is(_) = e else {
-            return answered_at(e, i);
+        let v = check_entry(sheet, i, end);
+        let Verdict::Accepted = v else {
+            return v;
         };
         end += body_size(kind(sheet, i));
         i += 1;
     }
-    if end != sheet.len() {
-        return Verdict::Refused(Refusal::BadEnd, 0);
+    if end == sheet.len() {
+        return Verdict::Accepted;
     }
-    Verdict::Accepted
+    Verdict::Refused(Refusal::BadEnd, 0)
 }
 
-// Entry i, where the body before it ends at `end`: refusals 5 to 7, the first that applies, or its command.
-fn check_entry(sheet: &[u8], i: u8, end: usize) -> Entry
-    ensures { λ e. ⌜ Decoded (entryNumber (now (sheet .entry)) i end) (commandAt (now (sheet .entry)) i) e ⌝ }
+// Entry i, where the body before it ends at `end`: refusals 5 to 7, the first that applies. It reads the entry's four bytes, and none of the numbers of its body.
+fn check_entry(sheet: &[u8], i: u8, end: usize) -> Verdict
+    ensures { λ v. ⌜ toldBy v ≡ entryTold (now (sheet .entry)) i end ⌝ }
 {
-    let e = read_entry(sheet, i);
-    let Entry::Is(_) = e else {
-        return e;
-    };
-    if offset(sheet, i) as usize != end {
-        return Entry::Refused(Refusal::BadOffset);
-    }
-    e
-}
-
-// An entry's answer as the sheet's.
-fn answered_at(e: Entry, i: u8) -> Verdict
-    ensures { λ v. ⌜ v ≡ answeredAt e i ⌝ }
-{
-    match e {
-        Entry::Is(_) => Verdict::Accepted,
-        Entry::Refused(r) => Verdict::Refused(r, i),
+    let chosen = choose(kind(sheet, i), rotor(sheet, i));
+    match chosen {
+        Choice::Refused(r) => Verdict::Refused(r, i),
+        Choice::Is(_) => {
+            if offset(sheet, i) as usize != end {
+                return Verdict::Refused(Refusal::BadOffset, i);
+            }
+            Verdict::Accepted
+        }
     }
 }

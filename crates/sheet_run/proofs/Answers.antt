@@ -9,7 +9,7 @@ use lib.Ieee.{Float, nan, binary32, toBits}
 use Rattle.wire.specs.Bytes.{bytesOf, writeAt}
 use Rattle.wire.proofs.LittleEndian.{bytesOf-length, writeAt-append}
 use Rattle.rules.specs.Rows.{quadRows}
-use Rattle.rules.proofs.Four.{four}
+use Rattle.general.proofs.Four.{four}
 use Rattle.rules.proofs.Count.{plain-count, thrust-floor-count, priority-count, airmode-count, rotor-out-count}
 use Rattle.quad.specs.declared.QuadMixer.{QuadMixer}
 use Rattle.entries.specs.declared.command.Command.{Command}

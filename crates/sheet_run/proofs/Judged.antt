@@ -5,8 +5,9 @@ use mathlib.Core.List.{List}
 use Prim.Native.Nat.{ℕ, _*_, _≤_, _<_}
 use lib.Dec.{ltb, eqb}
 use borrow.Author.Tests.{lt-ltb, le-ltb, ltb-false}
-use Rattle.rules.specs.Refusals.{accepted, shortOutput, alone, atEntry}
-use Rattle.rules.proofs.Refusals.{not-given, entry-passed}
+use Rattle.refusals.specs.Numbers.{accepted, shortOutput}
+use Rattle.refusals.specs.Told.{alone, atEntry}
+use Rattle.refusals.proofs.First.{not-given, entry-passed}
 use Rattle.entries.specs.declared.refusal.Refusal.{Refusal}
 use Rattle.entries.specs.Layout.{countOf}
 use Rattle.entries.specs.Refusal.{numberOf}

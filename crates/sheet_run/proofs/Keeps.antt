@@ -1,9 +1,8 @@
 -- Every answer of a run keeps what its mix promises: the numbers of a sheet are f32s, whatever its bytes. Assumes nothing.
 use mathlib.Core.Path.{refl}
-use mathlib.Core.Bool.{Bool, true, false, cond}
 use mathlib.Core.List.{List, [], _∷_}
 use Prim.Native.Nat.{ℕ, zero, suc}
-use lib.Dec.{T, eqb}
+use lib.Dec.{T}
 use lib.ListN.{getD}
 use lib.Ieee.{Float, nan, binary32, fits}
 use lib.Ieee.Bits.{ofBits-fits}
@@ -11,10 +10,14 @@ use lib.Ieee.Fits.{nan-fits}
 use Rattle.rules.specs.Rows.{quadRows}
 use Rattle.rules.proofs.Keeps.{plain-keeps, thrust-floor-keeps, priority-keeps, airmode-keeps, rotor-out-keeps}
 use Rattle.quad.specs.declared.QuadMixer.{QuadMixer}
+use Rattle.entries.specs.declared.choice.Case.{Case}
+use Rattle.entries.specs.declared.choice.Case.the-variants.{Plain as PlainCase, ThrustFloor as ThrustFloorCase, Priority as PriorityCase}
+use Rattle.entries.specs.declared.choice.Case.the-variants.{Airmode as AirmodeCase, RotorOut as RotorOutCase}
 use Rattle.entries.specs.declared.command.Command.{Command}
 use Rattle.entries.specs.declared.command.Command.the-variants.{Plain, ThrustFloor, Priority, Airmode, RotorOut}
 use Rattle.entries.specs.Layout.{kindOf, rotorOf, numberIn}
-use Rattle.entries.specs.Entry.{failedOf, commandOf, commandAt}
+use Rattle.entries.specs.Choice.{caseOf}
+use Rattle.entries.specs.Entry.{commandOf, commandWith, commandAt}
 use Rattle.sheet_run.specs.Run.{called, Gives, EachKeeps, commandsFrom}
 
 -- ---- a command of f32s
@@ -50,23 +53,19 @@ number-held : (s : List ℕ) (i j : ℕ) → Held (numberIn s i j)
 unfolding numberIn
 number-held s i j = ofBits-fits binary32 _
 
-of-held : (kind rotor : ℕ) (t r p y floor : Float) → Held t → Held r → Held p → Held y → Held floor → HeldIn (commandOf kind rotor t r p y floor)
+of-held : (c : Case) (t r p y floor : Float) → Held t → Held r → Held p → Held y → Held floor → HeldIn (commandOf c t r p y floor)
 unfolding commandOf HeldIn
-of-held kind rotor t r p y floor ht hr hp hy hf = go (eqb kind 0) (eqb kind 1) (eqb kind 2) (eqb kind 3)
-  where
-    go : (a b c d : Bool)
-        → HeldIn (cond a (Plain t r p y) (cond b (ThrustFloor t r p y floor) (cond c (Priority t r p y floor) (cond d (Airmode t r p y floor) (RotorOut (failedOf rotor) t r p y floor)))))
-    go true b c d = (ht, hr, hp, hy)
-    go false true c d = (ht, hf)
-    go false false true d = (ht, hf)
-    go false false false true = (ht, hf)
-    go false false false false = hf
+of-held PlainCase t r p y floor ht hr hp hy hf = (ht, hr, hp, hy)
+of-held ThrustFloorCase t r p y floor ht hr hp hy hf = (ht, hf)
+of-held PriorityCase t r p y floor ht hr hp hy hf = (ht, hf)
+of-held AirmodeCase t r p y floor ht hr hp hy hf = (ht, hf)
+of-held (RotorOutCase failed) t r p y floor ht hr hp hy hf = hf
 
 command-held : (s : List ℕ) (i : ℕ) → HeldIn (commandAt s i)
-unfolding commandAt
+unfolding commandAt commandWith
 command-held s i =
     let held = number-held s i in
-    of-held (kindOf s i) (rotorOf s i) _ _ _ _ _ (held 0) (held 1) (held 2) (held 3) (held 4)
+    of-held (caseOf (kindOf s i) (rotorOf s i)) _ _ _ _ _ (held 0) (held 1) (held 2) (held 3) (held 4)
 
 -- ---- the run
 

@@ -1,4 +1,5 @@
--- Refusal 9 cannot occur for an output of 1,280 bytes: an accepted sheet has at most 64 entries, and a refused one is told 1 to 8. Assumes nothing.
+-- Refusal 9 cannot occur for an output of 1,280 bytes: an accepted sheet has at most 64 entries, and 9 is none of a sheet's own numbers.
+-- Assumes nothing.
 use mathlib.Core.Path.{_≡_, refl, sym, ap, _∙_}
 use mathlib.Core.Bool.{Bool, true, false}
 use mathlib.Core.List.{List}
@@ -6,10 +7,11 @@ use Prim.Native.Nat.{ℕ, _≤_}
 use native.Mathlib.Omega.{arith}
 use lib.Dec.{eqb}
 use borrow.Author.Tests.{eqb-true}
-use Rattle.rules.specs.Refusals.{accepted, shortOutput, Told}
+use Rattle.refusals.specs.Numbers.{accepted, shortOutput}
+use Rattle.refusals.specs.Told.{Told}
 use Rattle.sheet.specs.Table.{judged}
 use Rattle.sheet.proofs.Accepted.{is-accepted}
-use Rattle.sheet.proofs.Numbers.{judged-most}
+use Rattle.sheet.proofs.Numbers.{never-nine}
 use Rattle.sheet_run.specs.Run.{judgedFor}
 use Rattle.sheet_run.proofs.Judged.{output-fits, told-before}
 
@@ -26,4 +28,4 @@ room-enough s room h = go (eqb (judged s .number) accepted) refl
 
 -- which is never 9
 pub never-short : (s : List ℕ) (room : ℕ) → 1280 ≤ room → judgedFor s room .number ≡ shortOutput → ⊥
-never-short s room h e = let most : judged s .number ≤ 8 = judged-most s in omega (arith, sym (room-enough s room h) ∙ e)
+never-short s room h e = never-nine s (sym (room-enough s room h) ∙ e)

@@ -8,7 +8,8 @@ use lib.Dec.{ltb, eqb}
 use lib.ListN.{length}
 use lib.Ieee.{Float, binary32, toBits}
 use Rattle.wire.specs.Bytes.{bytesOf, writeAt}
-use Rattle.rules.specs.Refusals.{accepted, shortOutput, given, Told, alone, atEntry}
+use Rattle.refusals.specs.Numbers.{accepted, shortOutput}
+use Rattle.refusals.specs.Told.{given, Told, alone, atEntry}
 use Rattle.quad.specs.declared.QuadMixer.{QuadMixer}
 use Rattle.quad.specs.Mixes.{afterPlain, afterThrustFloor, afterPriority, afterAirmode, afterRotorOut, PlainGives, ThrustFloorGives, PriorityGives, AirmodeGives, RotorOutGives}
 use Rattle.entries.specs.declared.command.Command.{Command}

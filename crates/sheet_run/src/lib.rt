@@ -7,15 +7,18 @@ ghost use lib.ListN.{length};
 ghost use lib.Ieee.{binary32, toBits};
 ghost use Rattle.wire.specs.Bytes.{bytesOf, writeAt};
 ghost use Rattle.entries.specs.Layout.{countOf, answerSize};
-ghost use Rattle.rules.specs.Refusals.{accepted};
+ghost use Rattle.refusals.specs.Numbers.{accepted};
 ghost use Rattle.sheet.specs.Table.{judged, toldBy};
-ghost use Rattle.sheet_run.specs.Run.{Gives, answerOf, judgedFor, commandsOf, ran, answersOf, Ran};
+ghost use Rattle.sheet_run.specs.Run.{Gives, answerOf, judgedFor, Ran};
 use bits::bits_of;
+use entries::choice::Choice;
+use entries::choice::choose;
 use entries::command::Command;
-use entries::command::Entry;
-use entries::command::read_entry;
+use entries::command::read_command;
 use entries::layout::ANSWER;
 use entries::layout::count;
+use entries::layout::kind;
+use entries::layout::rotor;
 use entries::refusal::Refusal;
 use quad::QuadMixer;
 use sheet::Verdict;
@@ -106,24 +109,34 @@ fn judge(sheet: &[u8], room: usize) -> Verdict
 }
 
 // The commands of an accepted sheet, one after another.
-fn run_entries(sheet: &[u8], state: QuadMixer, out: &mut [u8]) -> QuadMixer
+fn run_entries(sheet: &[u8], state: QuadMixer, out: &mut [u8]) -> Outcome
     requires { ⌜ (judged (now sheet) .number ≡ accepted) × (answerSize * countOf (now sheet) ≤ length (now out)) ⌝ }
-    ensures { λ r. ⌜ (r ≡ ran state (commandsOf (now (sheet .entry)))) × (now (out .exit) ≡ writeAt (now (out .entry)) 0 (answersOf state (commandsOf (now (sheet .entry))))) ⌝ }
+    ensures { λ r. ⌜ Ran (now (sheet .entry)) state (now (out .entry)) (r .verdict) (r .state) (now (out .exit)) ⌝ }
 {
     let mut q = state;
     let mut i = 0;
     while i < count(sheet) {
-        let e = read_entry(sheet, i);
-        let Entry::Is(c) = e else {
-            // Not reached: every entry of an accepted sheet is a command.
-            return q;
-        };
-        q = call(q, c);
+        let chosen = choose(kind(sheet, i), rotor(sheet, i));
+        match chosen {
+            Choice::Is(case) => {
+                q = call(q, read_command(sheet, i, case));
+            }
+            Choice::Refused(r) => {
+                // Not reached: every entry of an accepted sheet is a command. If it were, the run would be refused.
+                return Outcome {
+                    verdict: Verdict::Refused(r, i),
+                    state,
+                };
+            }
+        }
         let at = ANSWER * (i as usize);
         write_answer(&mut out[at..], q);
         i += 1;
     }
-    q
+    Outcome {
+        verdict: Verdict::Accepted,
+        state: q,
+    }
 }
 
 // Runs a sheet from a state. Each entry's answer takes 20 bytes at its place in the output, and the bytes past the last stay.
@@ -134,6 +147,5 @@ pub fn run(sheet: &[u8], state: QuadMixer, out: &mut [u8]) -> Outcome
     let Verdict::Accepted = verdict else {
         return Outcome { verdict, state };
     };
-    let state = run_entries(sheet, state, out);
-    Outcome { verdict, state }
+    run_entries(sheet, state, out)
 }

@@ -33,7 +33,10 @@ pub struct Wrench {
 }
 
 /// A frame of M rotors, each with a row of what thrust, roll, pitch and yaw count for it. M is at most
-/// 64.
+/// 64, so that neither its mix nor [`thrust_floor::mix`] is ever refused. What the archive refuses has
+/// this number:
+///
+/// - 10: there are over 64 outputs, or rows that are not four floats for each
 #[derive(Clone, Copy, Debug)]
 pub struct Mixer<const M: usize> {
     rows: [[f32; 4]; M],

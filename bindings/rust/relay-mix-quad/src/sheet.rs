@@ -14,12 +14,24 @@ pub const MAX_ENTRIES: usize = 64;
 /// scale after the call, each as the bits of its float, little-endian.
 pub const ANSWER_BYTES: usize = 20;
 
-/// Why a sheet is refused.
+/// Why a sheet is refused: the first of these that applies.
+///
+/// - 1: the sheet has under 4 bytes
+/// - 2: the version is not 1
+/// - 3: there are over 64 entries
+/// - 4: the length field is not the length of the sheet, or the contents do not fit in that
+/// - 5: an entry's kind is over 4
+/// - 6: an entry's rotor byte is not 0, and its kind is not 4
+/// - 7: an entry's body does not begin at the end of the one before it (the first: of the contents)
+/// - 8: the sheet does not end at the end of the last body (with no entries: of the contents)
+/// - 9: the output has under 20 bytes for each entry
+///
+/// 5, 6 and 7 come with the entry that they are about, and are tried entry by entry.
 #[derive(Clone, Copy, Debug, PartialEq, Eq)]
 pub struct Refused {
-    /// Document 01's number, 1 to 9: the first that applies.
+    /// The number, as in the list above.
     pub number: u32,
-    /// The entry that 5, 6 and 7 are about, counted from 0; with every other number 0.
+    /// The entry that the number comes with, counted from 0; with a number that comes with none, 0.
     pub entry: u32,
 }
 
@@ -37,7 +49,7 @@ fn told((number, entry): (u32, u32)) -> Result<(), Refused> {
     }
 }
 
-/// Whether a sheet is accepted. What is refused here has a number from 1 to 8.
+/// Whether a sheet is accepted. The number is never 9, which is about an output.
 pub fn check(sheet: &[u8]) -> Result<(), Refused> {
     told(exported::sheet_check(sheet))
 }

@@ -9,7 +9,7 @@ use Rattle.rules.specs.Airmode.{shift, shifted}
 use Rattle.rules.specs.Extremes.{least, largest}
 use Rattle.binary32.specs.Arithmetic.{_+f_}
 use Rattle.number.specs.Treat.{floorClamp}
-use Rattle.rules.proofs.Four.{four}
+use Rattle.general.proofs.Four.{four}
 use Rattle.airmode.proofs.shifted.Statement.{statement}
 use Rattle.airmode.proofs.shifted.Tie as tie
 

@@ -7,7 +7,7 @@ use lib.ListN.{length}
 use lib.Ieee.{Float}
 use Rattle.rules.specs.Airmode.{spread, spreadScale, unshifted}
 use Rattle.binary32.specs.Arithmetic.{_+f_, _*f_}
-use Rattle.rules.proofs.Four.{four}
+use Rattle.general.proofs.Four.{four}
 use Rattle.airmode.proofs.unshifted.Statement.{statement}
 use Rattle.airmode.proofs.unshifted.Tie as tie
 

@@ -1,7 +1,7 @@
 -- `bodies::place` meets its contract: of an accepted sheet and one of its entries the body's offset and size, else an empty part. Assumes nothing.
 use mathlib.Core.Path.{_≡_, sym}
 use borrow.Author.Needs.{needs}
-use Rattle.rules.specs.Refusals.{accepted}
+use Rattle.refusals.specs.Numbers.{accepted}
 use Rattle.entries.proofs.Answers.{never-accepted}
 use Rattle.sheet.specs.Table.{judged}
 use Rattle.sheet.proofs.Verdicts.{accepted-number, refused-number}

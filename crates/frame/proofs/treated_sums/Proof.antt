@@ -11,7 +11,8 @@ use Rattle.number.specs.Treat.{treated}
 use Rattle.rules.specs.Rows.{Row, rowsOf}
 use Rattle.rules.specs.Command.{roll, pitch, yaw}
 use Rattle.rules.specs.Plain.{rawSum, rawSums}
-use Rattle.rules.proofs.Runs.{filled, fill-from-row, filled-from-rows}
+use Rattle.general.proofs.Filled.{filled}
+use Rattle.rules.proofs.Runs.{fill-from-row, filled-from-rows}
 use Rattle.frame.proofs.treated_sums.Statement.{statement}
 use Rattle.frame.proofs.treated_sums.Tie as tie
 

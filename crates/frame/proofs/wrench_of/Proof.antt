@@ -12,7 +12,7 @@ use Rattle.binary32.specs.Arithmetic.{_+f_, _*f_, 0f}
 use Rattle.number.specs.Treat.{treated}
 use Rattle.rules.specs.Rows.{Row, rowsOf, rowAt, thrustOf, rollOf, pitchOf, yawOf}
 use Rattle.rules.specs.Torque.{summed, torqueOf, achieved}
-use Rattle.rules.proofs.Lists.{map-at}
+use Rattle.general.proofs.Lists.{map-at}
 use Rattle.rules.proofs.Runs.{rows-count}
 use Rattle.rules.proofs.Sums.{summed-next, summed-over}
 use Rattle.frame.proofs.wrench_of.Statement.{statement}

@@ -12,7 +12,7 @@ use Rattle.binary32.specs.Arithmetic.{_-f_, 0f, 1f}
 use Rattle.number.specs.Treat.{floorClamp}
 use Rattle.rules.specs.Extremes.{largest}
 use Rattle.rules.specs.Plain.{loweredBy, lowered, lowerLimited}
-use Rattle.rules.proofs.Runs.{filled, fill-in-place, filled-in-place}
+use Rattle.general.proofs.Filled.{filled, fill-in-place, filled-in-place}
 use Rattle.lowering.proofs.Taken.{excess-taken}
 use Rattle.lowering.proofs.lower_and_limit.Statement.{statement}
 use Rattle.lowering.proofs.lower_and_limit.Tie as tie

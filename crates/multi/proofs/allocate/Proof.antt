@@ -11,7 +11,8 @@ use Rattle.number.specs.Treat.{unitClamp}
 use Rattle.rules.specs.Rows.{Row, rowsOf}
 use Rattle.rules.specs.Plain.{rawSum}
 use Rattle.rules.specs.Multi.{wrenchMotors}
-use Rattle.rules.proofs.Runs.{filled, fill-from-row, filled-from-rows}
+use Rattle.general.proofs.Filled.{filled}
+use Rattle.rules.proofs.Runs.{fill-from-row, filled-from-rows}
 use Rattle.multi.specs.declared.Wrench.{Wrench}
 use Rattle.multi.proofs.allocate.Statement.{statement}
 use Rattle.multi.proofs.allocate.Tie as tie

@@ -9,7 +9,8 @@ use denote.Ref.{now}
 use borrow.Author.Needs.{needs, scaled-fits}
 use Rattle.rules.specs.Rows.{rowsOf}
 use Rattle.rules.specs.Command.{delta, deltas}
-use Rattle.rules.proofs.Runs.{filled, fill-from-row, filled-from-rows}
+use Rattle.general.proofs.Filled.{filled}
+use Rattle.rules.proofs.Runs.{fill-from-row, filled-from-rows}
 use Rattle.multi_thrust_floor.proofs.ask.Statement.{statement}
 use Rattle.multi_thrust_floor.proofs.ask.Tie as tie
 

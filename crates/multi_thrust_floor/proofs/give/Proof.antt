@@ -8,7 +8,7 @@ use lib.Ieee.{nan}
 use denote.Ref.{now}
 use borrow.Author.Needs.{needs, scaled-fits}
 use Rattle.rules.specs.ThrustFloor.{scaledMotor}
-use Rattle.rules.proofs.Runs.{filled, fill-in-place, filled-in-place}
+use Rattle.general.proofs.Filled.{filled, fill-in-place, filled-in-place}
 use Rattle.multi_thrust_floor.proofs.give.Statement.{statement}
 use Rattle.multi_thrust_floor.proofs.give.Tie as tie
 

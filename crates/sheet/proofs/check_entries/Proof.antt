@@ -1,13 +1,15 @@
 -- `sheet::check_entries` meets its contract. The invariant: `end` is where the body of entry i has to begin, and what is told of the entries from i on is what is told of
 -- all. Assumes nothing.
-use mathlib.Core.Path.{_≡_, sym, ap, _∙_}
-use Prim.Native.Nat.{_-_, _≤_}
+use mathlib.Core.Path.{_≡_, sym, ap, ap₂, _∙_}
+use Prim.Native.Nat.{_+_, _-_, _≤_}
 use native.Mathlib.Omega.{arith}
 use lib.ListN.{length}
 use borrow.Author.Needs.{needs}
-use Rattle.entries.specs.Layout.{countOf, bodyAt}
+use Rattle.entries.specs.Layout.{countOf, bodySize, bodyAt}
 use Rattle.sheet.specs.Table.{entriesTold}
-use Rattle.sheet.proofs.Walk.{body-first, body-next, body-most, size-most, told-command, told-refusal, told-end, end-refused, end-accepted}
+use Rattle.entries.proofs.Answers.{never-accepted}
+use Rattle.sheet.proofs.Verdicts.{accepted-number}
+use Rattle.sheet.proofs.Walk.{body-first, body-next, body-most, size-most, told-passed, told-refused, told-end, end-refused, end-accepted}
 use Rattle.sheet.proofs.check_entries.Statement.{statement}
 use Rattle.sheet.proofs.check_entries.Tie as tie
 
@@ -24,13 +26,13 @@ loop-holds c =
 
 returns : tie.Need-returns Inv-loop μ-loop
 returns c =
-    let told = c .before in
-    let checked = told .before .before in
+    let checked = c .before .before in
     let at = checked .before .before in
     let inv = at .loop .inv in
-    let is = told .enum-told2 .given .1 in
-    rw (c .answered-at .ensures, is)
-    (sym (told-refusal _ (at .loop .i) _ (checked .before .loop-test .taken) (rw (is, inv .1) at (checked .check-entry .ensures))) ∙ inv .2)
+    let refusal = c .enum-told2 .given in
+    rw (refusal .1)
+    (sym (told-refused _ (at .loop .i) _ (checked .before .loop-test .taken)
+    (sym (rw (refusal .1, inv .1) at (checked .check-entry .ensures))) (never-accepted (refusal .0 .0))) ∙ inv .2)
 
 add-end : tie.Need-add-end Inv-loop μ-loop
 add-end c =
@@ -48,8 +50,9 @@ loop-again c =
     let s = at .before .before .before .before .args .sheet .now in
     let i = at .loop .i in (
       omega arith,
-      rw (c .body-size .ensures, c .before .kind .ensures, inv .1) (sym (body-next s i)),
-      sym (told-command s i _ (checked .before .loop-test .taken) (rw (entry .enum-told .given .1, inv .1) at (checked .check-entry .ensures))) ∙ inv .2,
+      ap₂ _+_ (inv .1) (c .body-size .ensures ∙ ap bodySize (c .before .kind .ensures)) ∙ sym (body-next s i),
+      sym (told-passed s i _ (checked .before .loop-test .taken)
+          (accepted-number (rw (inv .1) at (checked .check-entry .ensures)) (entry .enum-told .given .1))) ∙ inv .2,
     )
 
 returns-2 : tie.Need-returns-2 Inv-loop μ-loop
@@ -58,8 +61,7 @@ returns-2 c =
     let s = at .before .before .before .before .args .sheet .now in
     let k = at .before .before .count in
     let last : at .loop .i ≡ countOf s = omega (arith, k .ensures) in
-    let differs : (bodyAt s (countOf s) ≡ length s → ⊥) = λ e. c .if1 .taken (rw (at .loop .inv .1, last) e) in
-    rw (← at .loop .inv .2, k .ensures, last, told-end, end-refused s differs)
+    rw (← at .loop .inv .2, k .ensures, last, told-end, end-accepted s (rw (at .loop .inv .1, last) at (c .if1 .taken)))
 
 returns-3 : tie.Need-returns-3 Inv-loop μ-loop
 returns-3 c =
@@ -67,7 +69,8 @@ returns-3 c =
     let s = at .before .before .before .before .args .sheet .now in
     let k = at .before .before .count in
     let last : at .loop .i ≡ countOf s = omega (arith, k .ensures) in
-    rw (← at .loop .inv .2, k .ensures, last, told-end, end-accepted s (rw (at .loop .inv .1, last) at (c .if1 .left)))
+    let differs : (bodyAt s (countOf s) ≡ length s → ⊥) = λ e. c .if1 .left (rw (at .loop .inv .1, last) e) in
+    rw (← at .loop .inv .2, k .ensures, last, told-end, end-refused s differs)
 
 pub check-entries-spec : {M : Type 1} → statement M
 check-entries-spec =
@@ -81,7 +84,6 @@ check-entries-spec =
     (λ c κs. search needs)
     (λ c. search needs)
     (λ c. search needs)
-    (λ c κs. search needs)
     returns
     (λ c κs. search needs)
     (λ c κs. search needs)

@@ -1,7 +1,7 @@
 -- `sheet_run::judge` meets its contract: a refused sheet stays refused, and of an accepted one the output's length decides. Assumes nothing.
 use mathlib.Core.Path.{_≡_, sym}
 use borrow.Author.Needs.{needs}
-use Rattle.rules.specs.Refusals.{accepted}
+use Rattle.refusals.specs.Numbers.{accepted}
 use Rattle.sheet.specs.Table.{judged}
 use Rattle.sheet.proofs.Verdicts.{accepted-number}
 use Rattle.sheet_run.proofs.Judged.{refused-before, output-short, output-fits}

@@ -2,7 +2,7 @@
 use borrow.Author.Needs.{needs}
 use Rattle.sheet.proofs.Verdicts.{accepted-number}
 use Rattle.sheet_run.proofs.Judged.{accepted-for}
-use Rattle.sheet_run.proofs.ByVerdict.{run-refused, run-accepted}
+use Rattle.sheet_run.proofs.ByVerdict.{run-refused}
 use Rattle.sheet_run.proofs.run.Statement.{statement}
 use Rattle.sheet_run.proofs.run.Tie as tie
 
@@ -14,10 +14,7 @@ run-entries-requires c κs =
     accepted-for _ _ (accepted-number (c .before .before .before .judge .ensures) (c .before .enum-told .given .1))
 
 returns-2 : tie.Need-returns-2
-returns-2 c =
-    let ran = c .before .before in
-    let told = ran .before .before in
-    run-accepted (told .before .before .judge .ensures) (told .enum-told .given .1) (ran .run-entries .ensures .0) (ran .run-entries .ensures .1)
+returns-2 c = c .before .before .run-entries .ensures
 
 pub run-spec : {M : Type 1} → statement M
 run-spec =

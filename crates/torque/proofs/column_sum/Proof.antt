@@ -7,7 +7,7 @@ use lib.Ieee.{nan}
 use Rattle.binary32.specs.Arithmetic.{0f}
 use Rattle.rules.specs.Rows.{Row, quadRows}
 use Rattle.rules.specs.Torque.{summed}
-use Rattle.rules.proofs.Four.{four}
+use Rattle.general.proofs.Four.{four}
 use Rattle.torque.proofs.column_sum.Statement.{statement}
 use Rattle.torque.proofs.column_sum.Tie as tie
 

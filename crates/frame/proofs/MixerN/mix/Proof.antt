@@ -2,7 +2,7 @@
 use mathlib.Core.Path.{_≡_}
 use borrow.Author.Needs.{needs}
 use Rattle.rules.specs.Frame.{frameMotors}
-use Rattle.rules.proofs.Held.{array-held}
+use Rattle.general.proofs.Held.{array-held}
 use Rattle.rules.proofs.Keeps.{frame-keeps}
 use Rattle.frame.specs.Mixer.{rowsIn}
 use Rattle.frame.proofs.MixerN.mix.Statement.{statement}

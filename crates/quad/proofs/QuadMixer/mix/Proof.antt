@@ -1,6 +1,6 @@
 -- `QuadMixer::mix` meets its contract: the state is the rule's, and so are the promises. Assumes nothing.
 use borrow.Author.Needs.{needs}
-use Rattle.rules.proofs.Held.{array-held}
+use Rattle.general.proofs.Held.{array-held}
 use Rattle.rules.proofs.Keeps.{plain-keeps}
 use Rattle.quad.proofs.Mixed.{mixed}
 use Rattle.quad.proofs.QuadMixer.mix.Statement.{statement}

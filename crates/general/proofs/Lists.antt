@@ -1,5 +1,5 @@
--- Lists: what holds of each, through a map; what stands at a place of a list, and of a mapped one; the first part of a mapped list; and what holds of each
--- two that two maps make of one. Assumes nothing.
+-- Lists: what holds of each, through a map; what stands at a place of a list, and of a mapped one; and the first part of a
+-- mapped list. Assumes nothing.
 use mathlib.Core.Path.{_≡_, refl, ap₂}
 use mathlib.Core.Bool.{not}
 use mathlib.Core.List.{List, [], _∷_, _++_, map}
@@ -9,8 +9,7 @@ use lib.Dec.{T}
 use lib.ListN.{length, getD, take}
 use lib.Ieee.{Float, nan, binary32, fits, isNan}
 use lib.Ieee.Fits.{nan-fits}
-use Rattle.fit.specs.Fit.{EachMotor}
-use Rattle.rules.specs.Promises.{Each}
+use Rattle.general.specs.Each.{Each}
 
 module _ {A : Type 0} where
   -- ---- what holds of each, through a map
@@ -25,16 +24,11 @@ module _ {A : Type 0} where
   each-of-map P g [] h = tt
   each-of-map P g (a ∷ l) h = (h .0, each-of-map P g l (h .1))
 
-  -- where P holds of each, what P gives of one holds of each: of a mapped value, of the two that f and g make, and of two that are equal
+  -- where P holds of each, what P gives of one holds of each: of a mapped value, and of two that are equal
   module _ (P : A → Type 0) where
     pub each-map : {B : Type 0} (Q : B → Type 0) (g : A → B) → ((a : A) → P a → Q (g a)) → (l : List A) → Each P l → Each Q (map g l)
     each-map Q g k [] h = tt
     each-map Q g k (a ∷ l) h = (k a (h .0), each-map Q g k l (h .1))
-
-    pub each-motor : (R : Float → Float → Type 0) (f g : A → Float) → ((a : A) → P a → R (f a) (g a))
-        → (l : List A) → Each P l → EachMotor R (map f l) (map g l)
-    each-motor R f g k [] h = tt
-    each-motor R f g k (a ∷ l) h = (k a (h .0), each-motor R f g k l (h .1))
 
     pub each-same : {B : Type 0} (f g : A → B) → ((a : A) → P a → f a ≡ g a) → (l : List A) → Each P l → map f l ≡ map g l
     each-same f g k [] h = refl

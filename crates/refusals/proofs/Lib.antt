@@ -1,0 +1,2 @@
+-- `First` has the laws of "first that applies".
+pub mod First
