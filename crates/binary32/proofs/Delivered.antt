@@ -18,7 +18,7 @@ use Rattle.binary32.proofs.Magnitude.{Number, Finite, is-finite, finite
 use Rattle.binary32.proofs.Rounded.{Rounded, one-rounding}
 use Rattle.binary32.proofs.Integers.{Difference, own-pair, rounding-rounded}
 use Rattle.binary32.proofs.LastDigit.{lastDigit, pattern-digit}
-use Rattle.binary32.proofs.NearestSize.{NearestSize, unbounded-nearest}
+use Rattle.binary32.proofs.NearestSize.{gap, NearestSize, unbounded-nearest}
 use Rattle.binary32.proofs.Bound.{beyond-bound, under-bound, within-bound}
 use Rattle.binary32.proofs.Sides.{side, ahead, behind, distance-sided, side-sign, sides, sides-size, whole-of-sides, sides-of-whole}
 use Rattle.binary32.proofs.Toward.{Toward, toward, rounded-toward, toward-size, toward-distance, farther, tied}
@@ -119,6 +119,15 @@ delivered-rounded r d C = rounded-toward C d (delivered-toward r C)
 pub determined : {f : Format} {z y : Float} {w : ℤ} {c : ℕ} → 0 < c → RoundsTo f w c z → RoundsTo f w c y → eq z y ≡ true
 determined {w} C rz ry = one-rounding (delivered-rounded rz (own-pair w) C) (delivered-rounded ry (own-pair w) C)
 
--- where it is finite, it is a nearest number, and the even one of two
+-- where it is finite, the exact result lies under the bound
+under-the-bound : {f : Format} {z : Float} {w : ℤ} {c : ℕ} → T (finite z) → RoundsTo f w c z → natAbs w < bound f * c
+under-the-bound {f} {w} {c} t r = by-bound f w c (λ h. absurd (subst (λ (x : Float). T (finite x)) (r .beyond h) t)) (λ h. h)
+
+-- so it is a nearest number, and the even one of two
 pub delivered-nearest : {f : Format} {z : Float} {w : ℤ} {c : ℕ} → T (finite z) → RoundsTo f w c z → Nearest f w c z × TiesToEven f w c z
-delivered-nearest {f} {w} {c} t r = by-bound f w c (λ h. absurd (subst (λ (x : Float). T (finite x)) (r .beyond h) t)) (λ h. r .within h)
+delivered-nearest t r = r .within (under-the-bound t r)
+
+-- and its size is the nearest size
+pub delivered-size : {f : Format} {z : Float} {w : ℤ} {c : ℕ} → T (finite z) → RoundsTo f w c z → 0 < c
+    → NearestSize f (natAbs w) c (ahead (side w) f z) × (distance f w c z ≡ gap (natAbs w) (ahead (side w) f z * c))
+delivered-size t r C = let seen = delivered-toward r C in (nearest-size C seen (under-the-bound t r), toward-distance seen)

@@ -24,7 +24,7 @@ pub record Difference (z : ℤ) (p n : ℕ) : Type 0 where
 
 -- ---- the pairs of an integer
 
-difference : (p n : ℕ) → Difference (subℕ p n) p n
+pub difference : (p n : ℕ) → Difference (subℕ p n) p n
 difference p n = go (ltb p n) refl
   where
     go : (b : Bool) → ltb p n ≡ b → Difference (cond b (negsuc (n - suc p)) (pos (p - n))) p n
@@ -35,6 +35,10 @@ difference p n = go (ltb p n) refl
 pub whole-difference : (f : Format) (x : Float) → Difference (wholeOf f x) (over f x) (under f x)
 unfolding wholeOf
 whole-difference f x = difference (over f x) (under f x)
+
+-- a natural number
+pub natural : (k : ℕ) → Difference (pos k) k 0
+natural k = record { is = omega arith }
 
 -- an integer's own pair
 pub plus : ℤ → ℕ
@@ -122,9 +126,7 @@ product-of {z = negsuc a} {w = negsuc b} hz hw = record { is = simp (hz .is, hw 
 
 -- a multiple
 pub times-of : {z : ℤ} {p n : ℕ} → Difference z p n → (k : ℕ) → Difference (z *ℤ pos k) (p * k) (n * k)
-times-of {p} {n} h k =
-    let own : Difference (pos k) k 0 = record { is = omega arith } in
-    moved (product-of h own) (p * k) (n * k) (omega (arith, mul-zero p, mul-zero n))
+times-of {p} {n} h k = moved (product-of h (natural k)) (p * k) (n * k) (omega (arith, mul-zero p, mul-zero n))
 
 -- the size of an integer
 pub size-of : {z : ℤ} {p n : ℕ} → Difference z p n → natAbs z ≡ (p - n) + (n - p)

@@ -54,23 +54,24 @@ module _ (f : Format) (w k : ℕ) (full : 0 < k → 2 ^ (prec f - 1) ≤ w) wher
 
 -- ---- which of the two is taken
 
+pub step : (c w k : ℕ) → suc w * 2 ^ k * c ≡ w * 2 ^ k * c + 2 ^ k * c
+step c w k = ap (λ (n : ℕ). n * c) (suc-mul w (2 ^ k)) ∙ add-mul (w * 2 ^ k) (2 ^ k) c
+
+-- both are sizes, also where the next number up is 2 ^ prec
+pub short-of : (f : Format) (k q : ℕ) → q ≤ 2 ^ prec f → Short f (q * 2 ^ k)
+short-of f k q h = elim (eq-or-lt-of-le h) [
+  | inl e ↦ record {
+    digits = 1;
+    shift = prec f + k;
+    few = pow-lt {i = 0} (omega (arith, two f));
+    exact = ap (λ (n : ℕ). n * 2 ^ k) e ∙ sym (pow-add 2 (prec f) k) ∙ sym (one-mul (2 ^ (prec f + k)));
+  }
+  | inr l ↦ record { digits = q; shift = k; few = l; exact = refl }
+]
+
 -- a is L = w * 2 ^ k * c and a rest r, which is less than the step u of 2 ^ k: the two candidates are L and L + u
 module _ (f : Format) (a c w k r : ℕ) (C : 0 < c) (full : 0 < k → 2 ^ (prec f - 1) ≤ w) (few : w < 2 ^ prec f)
     (parts : a ≡ w * 2 ^ k * c + r) (rest : r < 2 ^ k * c) where
-  step : suc w * 2 ^ k * c ≡ w * 2 ^ k * c + 2 ^ k * c
-  step = ap (λ (n : ℕ). n * c) (suc-mul w (2 ^ k)) ∙ add-mul (w * 2 ^ k) (2 ^ k) c
-
-  short-of : (q : ℕ) → q ≤ 2 ^ prec f → Short f (q * 2 ^ k)
-  short-of q h = elim (eq-or-lt-of-le h) [
-    | inl e ↦ record {
-      digits = 1;
-      shift = prec f + k;
-      few = pow-lt {i = 0} (omega (arith, two f));
-      exact = ap (λ (n : ℕ). n * 2 ^ k) e ∙ sym (pow-add 2 (prec f) k) ∙ sym (one-mul (2 ^ (prec f + k)));
-    }
-    | inr l ↦ record { digits = q; shift = k; few = l; exact = refl }
-  ]
-
   digit-lower : lastDigit f (w * 2 ^ k) ≡ w % 2
   digit-lower = digit-of f w k (omega arith) full
 
@@ -86,29 +87,29 @@ module _ (f : Format) (a c w k r : ℕ) (C : 0 < c) (full : 0 < k → 2 ^ (prec 
 
   lower : r * 2 ≤ 2 ^ k * c → (r * 2 ≡ 2 ^ k * c → w % 2 ≡ 0) → NearestSize f a c (w * 2 ^ k)
   lower h even = record {
-    short = short-of w (omega arith);
-    nearest = λ m s. ⊎-elim (λ l. omega (arith, step)) (λ l. omega (arith, step)) (others m s);
+    short = short-of f k w (omega arith);
+    nearest = λ m s. ⊎-elim (λ l. omega (arith, step c w k)) (λ l. omega (arith, step c w k)) (others m s);
     tie = λ m s e ne.
         ⊎-elim
         (λ (l : m * c ≤ w * 2 ^ k * c). absurd (ne (same m (w * 2 ^ k) (omega arith))))
         (λ (l : suc w * 2 ^ k * c ≤ m * c).
-        let half : r * 2 ≡ 2 ^ k * c = omega (arith, step) in
-        let is : m ≡ suc w * 2 ^ k = same m (suc w * 2 ^ k) (omega (arith, step)) in
+        let half : r * 2 ≡ 2 ^ k * c = omega (arith, step c w k) in
+        let is : m ≡ suc w * 2 ^ k = same m (suc w * 2 ^ k) (omega (arith, step c w k)) in
         (digit-lower ∙ even half, ap (lastDigit f) is ∙ digit-upper ∙ omega (arith, even half)))
         (others m s);
   }
 
   upper : 2 ^ k * c ≤ r * 2 → (r * 2 ≡ 2 ^ k * c → w % 2 ≡ 1) → NearestSize f a c (suc w * 2 ^ k)
   upper h odd = record {
-    short = short-of (suc w) (omega arith);
-    nearest = λ m s. ⊎-elim (λ l. omega (arith, step)) (λ l. omega (arith, step)) (others m s);
+    short = short-of f k (suc w) (omega arith);
+    nearest = λ m s. ⊎-elim (λ l. omega (arith, step c w k)) (λ l. omega (arith, step c w k)) (others m s);
     tie = λ m s e ne.
         ⊎-elim
         (λ (l : m * c ≤ w * 2 ^ k * c).
-        let half : r * 2 ≡ 2 ^ k * c = omega (arith, step) in
-        let is : m ≡ w * 2 ^ k = same m (w * 2 ^ k) (omega (arith, step)) in
+        let half : r * 2 ≡ 2 ^ k * c = omega (arith, step c w k) in
+        let is : m ≡ w * 2 ^ k = same m (w * 2 ^ k) (omega (arith, step c w k)) in
         (digit-upper ∙ omega (arith, odd half), ap (lastDigit f) is ∙ digit-lower ∙ odd half))
-        (λ (l : suc w * 2 ^ k * c ≤ m * c). absurd (ne (same m (suc w * 2 ^ k) (omega (arith, step)))))
+        (λ (l : suc w * 2 ^ k * c ≤ m * c). absurd (ne (same m (suc w * 2 ^ k) (omega (arith, step c w k)))))
         (others m s);
   }
 
@@ -128,25 +129,45 @@ module _ (f : Format) (a c w k r : ℕ) (C : 0 < c) (full : 0 < k → 2 ^ (prec 
 
 -- ---- so the kit's rounding, before it asks for overflow, gives the nearest size
 
-unfoldable pub unbounded : Format → ℕ → ℕ → ℕ
-unbounded f a c = kept (prec f) a c * 2 ^ drop (prec f) a c
+-- The leading digits of a / c: `lead` has prec digits of its whole part, or all of them where there are no more; `shift` digits come after these; and `rest` is left.
+pub record Leading (f : Format) (a c : ℕ) : Type 0 where
+  pub lead : ℕ
+  pub shift : ℕ
+  pub rest : ℕ
+  pub few : lead < 2 ^ prec f
+  pub full : 0 < shift → 2 ^ (prec f - 1) ≤ lead
+  pub parts : a ≡ lead * 2 ^ shift * c + rest
+  pub less : rest < 2 ^ shift * c
 
-pub unbounded-nearest : (f : Format) (a c : ℕ) → 0 < c → NearestSize f a c (unbounded f a c)
-unfolding unbounded
-unbounded-nearest f a c C =
+unfoldable pub leading : (f : Format) (a c : ℕ) → 0 < c → Leading f a c
+leading f a c C =
     let p = prec f in
     let q = a / c in
     let k = drop p a c in
     let u = 2 ^ k * c in
     let w = q / 2 ^ k in
-    -- q has p + k digits, or at most p where k is 0
-    let few : w < 2 ^ p = shr-lt p k (lt-of-lt-of-le (size-lt q) (pow-mono (omega arith))) in
-    let full : 0 < k → 2 ^ (p - 1) ≤ w = λ some.
-    let reached : 2 ^ (p - 1) * 2 ^ k ≤ q = rw (← pow-add 2 (p - 1) k) (size-reaches q (p - 1 + k) (omega (arith, two f))) in
-    subst (λ (n : ℕ). n ≤ w) (shl-shr (2 ^ (p - 1)) k) (shr-mono k reached) in
-    let swap : u ≡ c * 2 ^ k = mul-comm (2 ^ k) c in
-    let once : a / (c * 2 ^ k) ≡ w = sym (div-div-eq-div-mul a c (2 ^ k)) in
-    let whole : a / u ≡ w = ap (λ (n : ℕ). a / n) swap ∙ once in
-    let parts : a ≡ w * 2 ^ k * c + a % u = sym (div-add-mod' a u) ∙ ap (λ (n : ℕ). n + a % u) (ap (λ (n : ℕ). n * u) whole ∙ sym (mul-assoc w (2 ^ k) c)) in
-    subst₂ (λ (n v : ℕ). NearestSize f a c (nearest n (compare (a % v * 2) v) * 2 ^ k)) (sym once) swap
-    (nearest-taken f a c w k (a % u) C full few parts (mod-lt a (mul-pos (pow-pos k) C)) (compare (a % u * 2) u) refl)
+    let whole : a / u ≡ w = ap (λ (n : ℕ). a / n) (mul-comm (2 ^ k) c) ∙ sym (div-div-eq-div-mul a c (2 ^ k)) in
+    record {
+      lead = w;
+      shift = k;
+      rest = a % u;
+      -- q has p + k digits, or at most p where k is 0
+      few = shr-lt p k (lt-of-lt-of-le (size-lt q) (pow-mono (omega arith)));
+      full = λ some.
+          let reached : 2 ^ (p - 1) * 2 ^ k ≤ q = rw (← pow-add 2 (p - 1) k) (size-reaches q (p - 1 + k) (omega (arith, two f))) in
+          subst (λ (n : ℕ). n ≤ w) (shl-shr (2 ^ (p - 1)) k) (shr-mono k reached);
+      parts = sym (div-add-mod' a u) ∙ ap (λ (n : ℕ). n + a % u) (ap (λ (n : ℕ). n * u) whole ∙ sym (mul-assoc w (2 ^ k) c));
+      less = mod-lt a (mul-pos (pow-pos k) C);
+    }
+
+unfoldable pub unbounded : Format → ℕ → ℕ → ℕ
+unbounded f a c = kept (prec f) a c * 2 ^ drop (prec f) a c
+
+pub unbounded-nearest : (f : Format) (a c : ℕ) → 0 < c → NearestSize f a c (unbounded f a c)
+unfolding unbounded leading
+unbounded-nearest f a c C =
+    let k = drop (prec f) a c in
+    let u = 2 ^ k * c in
+    let l = leading f a c C in
+    subst₂ (λ (n v : ℕ). NearestSize f a c (nearest n (compare (a % v * 2) v) * 2 ^ k)) (div-div-eq-div-mul a c (2 ^ k)) (mul-comm (2 ^ k) c)
+    (nearest-taken f a c (l .lead) k (l .rest) C (l .full) (l .few) (l .parts) (l .less) (compare (a % u * 2) u) refl)

@@ -2,5 +2,6 @@ pub mod Arithmetic
 pub mod Whole
 pub mod Rounding
 pub mod Nearest
+pub mod HalfUnit
 pub mod Operations
 pub mod Range
