@@ -176,6 +176,8 @@ fn rows(set: &Set) -> Vec<Row> {
     let multi8 = of(multi8(o::footspandle_mixer_mix), rust_multi8(r::mixer_mix));
     let runs = [run(o::footspandle_sheet_run), run(r::sheet_run)];
     let sheet64 = pair(&sheets, PART / ENTRIES, runs);
+    let checks = [check(o::footspandle_sheet_check), check(r::sheet_check)];
+    let check64 = pair(&sheets, PART / ENTRIES, checks);
     let eight = |ours| {
         let sides = [ours, Rc::clone(&quad)];
         unlike(&commands, PART, sides, model_thrust_floor8())
@@ -197,6 +199,7 @@ fn rows(set: &Set) -> Vec<Row> {
         row("mixer_n", RUST, mixer_n),
         row("multi8", RUST, multi8),
         row("sheet64", MODEL, sheet64),
+        row("check64", MODEL, check64),
         row("thrust_floor8", QUAD, thrust_floor8),
         row("thrust_floor_octo", QUAD, thrust_floor_octo),
     ]
@@ -303,6 +306,19 @@ fn model_thrust_floor8() -> Side<Asked> {
     side([0.0; 9], |memory: &mut Scaled8, c: &Asked| {
         let [motors @ .., scale] = memory;
         (*motors, *scale) = octo_coax_thrust_floor(&(c.wrench, c.floor));
+    })
+}
+
+type Check = unsafe extern "C" fn(*const u8, usize, *mut u32) -> u32;
+
+fn check(check: Check) -> Side<Vec<u8>> {
+    let check = black_box(check);
+    Rc::new(move |part| {
+        part.iter().fold(0, |fold, sheet| {
+            let mut entry = 1;
+            let number = unsafe { check(sheet.as_ptr(), sheet.len(), &mut entry) };
+            fold_bits(fold_bits(fold, number), entry)
+        })
     })
 }
 

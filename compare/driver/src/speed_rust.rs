@@ -88,7 +88,14 @@ pub unsafe extern "C" fn mixer_mix(
     });
 }
 
-/// Not the Rust's, which has no sheet: the model of compare, over the Rust's mixes.
+/// Not the Rust's, which has no sheet, and neither is the next: the model of compare.
+pub unsafe extern "C" fn sheet_check(sheet: *const u8, length: usize, entry: *mut u32) -> u32 {
+    let (number, at) = sheet::judge_alone(std::slice::from_raw_parts(sheet, length));
+    *entry = at;
+    number
+}
+
+/// The model of compare, over the Rust's mixes.
 pub unsafe extern "C" fn sheet_run(
     sheet: *const u8,
     length: usize,
