@@ -1,9 +1,7 @@
 // What the kind and the rotor byte of an entry choose: which of the five commands it is, or the refusal. None of the entry's numbers is read for it.
 ghost use mathlib.Core.Path.{_≡_};
-ghost use mathlib.Core.Bool.{cond};
-ghost use lib.Dec.{eqb};
-ghost use Rattle.refusals.specs.Numbers.{accepted, badRotor};
-ghost use Rattle.entries.specs.Choice.{Chosen, ChosenBy};
+ghost use Prim.Native.Nat.{_<_};
+ghost use Rattle.entries.specs.Choice.{caseOf, ChosenBy};
 use crate::refusal::Refusal;
 
 // Which command it is. Rotor-out has the lost rotor, 0 to 3, or `NONE_LOST`.
@@ -24,13 +22,16 @@ pub enum Choice {
 // The rotor number that stands for all that name none.
 pub const NONE_LOST: usize = 4;
 
-// A case that names no rotor: its rotor byte has to be 0.
-fn unlost(case: Case, rotor: u8) -> Choice
-    ensures { λ c. ⌜ Chosen (cond (eqb rotor 0) accepted badRotor) case c ⌝ }
+// The case of a kind that names no rotor.
+fn unlost(kind: u8) -> Case
+    requires { ⌜ kind < 4 ⌝ }
+    ensures { λ c. ⌜ c ≡ caseOf kind 0 ⌝ }
 {
-    match rotor {
-        0 => Choice::Is(case),
-        1..=255 => Choice::Refused(Refusal::BadRotor),
+    match kind {
+        0 => Case::Plain,
+        1 => Case::ThrustFloor,
+        2 => Case::Priority,
+        3..=255 => Case::Airmode,
     }
 }
 
@@ -39,10 +40,10 @@ pub fn choose(kind: u8, rotor: u8) -> Choice
     ensures { λ c. ⌜ ChosenBy kind rotor c ⌝ }
 {
     match kind {
-        0 => unlost(Case::Plain, rotor),
-        1 => unlost(Case::ThrustFloor, rotor),
-        2 => unlost(Case::Priority, rotor),
-        3 => unlost(Case::Airmode, rotor),
+        0..=3 => match rotor {
+            0 => Choice::Is(unlost(kind)),
+            1..=255 => Choice::Refused(Refusal::BadRotor),
+        },
         4 => match rotor {
             0..=3 => Choice::Is(Case::RotorOut(rotor as usize)),
             4..=255 => Choice::Is(Case::RotorOut(NONE_LOST)),
