@@ -1,6 +1,6 @@
 -- A number that is delivered lies within half a unit in the last place of the exact result: the two sizes next to a / c, of prec digits, are a step of 2 ^ k apart, and the
 -- nearest size is no farther than the nearer of them. In either format. Assumes nothing.
-use mathlib.Core.Path.{_≡_, sym, ap, _∙_, subst}
+use mathlib.Core.Path.{_≡_, ap}
 use Prim.Native.Nat.{ℕ, suc, _+_, _-_, _*_, _^_, _≤_, _<_}
 use native.Mathlib.Nat.{add-zero, one-mul, mul-assoc, mul-comm, mul-left-comm, mul-le-mul-left, mul-le-mul-right, le-trans, le-of-eq}
 use native.Mathlib.Decide.{decLe}

@@ -3,7 +3,8 @@
 use mathlib.Core.Path.{_≡_, ap, ap₂, _∙_, subst₂}
 use mathlib.Core.Bool.{cond}
 use Prim.Native.Nat.{ℕ, zero, suc, _+_, _-_, _*_, _^_, _≤_, _<_}
-use native.Mathlib.Nat.{mul-assoc, mul-right-comm, zero-mul, mul-zero, suc-mul, add-mul, pow-suc, mul-le-mul-right, le-of-mul-le-mul-left, le-of-mul-le-mul-right, mul-lt-mul-of-pos-right, le-trans, le-of-eq, lt-of-le-of-lt}
+use native.Mathlib.Nat.{mul-assoc, mul-right-comm, zero-mul, mul-zero, suc-mul, add-mul, pow-suc}
+use native.Mathlib.Nat.{mul-le-mul-right, le-of-mul-le-mul-left, le-of-mul-le-mul-right, mul-lt-mul-of-pos-right, le-trans, le-of-eq, lt-of-le-of-lt}
 use native.Mathlib.Decide.{decLe}
 use native.Mathlib.Omega.{arith}
 use lib.Pow.{pow-pos}
@@ -31,6 +32,7 @@ pub distance-apart : {w : ℤ} {p n : ℕ} (f : Format) (z : Float) (c : ℕ) �
 unfolding distance apart
 distance-apart f z c d = size-of (sum-of d (negated-of (times-of (whole-difference f z) c)))
 
+-- z is finite, and within e units of (p - n) / c
 pub record Near (f : Format) (z : Float) (p n c e : ℕ) : Type 0 where
   pub finite : Finite f z
   pub within : apart f z p n c ≤ e * c

@@ -50,7 +50,8 @@ module _ {b s d : Float} (hb : Factor binary32 b) (hs : Factor binary32 s) (hd :
       add-error (hb .number) (product .finite) .near-power 125 (lit< tt)
       (rw (hb .from) (sum-most (2 ^ 149) (2 ^ 150) _ _ _ _ _ refl (hb .to) (factor-over hs hd) (factor-under hs hd) within-one))
 
-  pub scaled-sum-within : distance binary32 (wholeOf binary32 b *ℤ pos (2 ^ 149) +ℤ wholeOf binary32 s *ℤ wholeOf binary32 d) (2 ^ 149) (b +f s *f d) ≤ (2 ^ 125 + 2 ^ 124) * 2 ^ 149
+  pub scaled-sum-within :
+      distance binary32 (wholeOf binary32 b *ℤ pos (2 ^ 149) +ℤ wholeOf binary32 s *ℤ wholeOf binary32 d) (2 ^ 149) (b +f s *f d) ≤ (2 ^ 125 + 2 ^ 124) * 2 ^ 149
   unfolding apart
   scaled-sum-within =
       let whole = whole-difference binary32 in
