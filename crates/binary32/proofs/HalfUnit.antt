@@ -1,6 +1,6 @@
 -- A number that is delivered lies within half a unit in the last place of the exact result: the two sizes next to a / c, of prec digits, are a step of 2 ^ k apart, and the
 -- nearest size is no farther than the nearer of them. In either format. Assumes nothing.
-use mathlib.Core.Path.{_≡_, ap}
+use mathlib.Core.Path.{_≡_, refl, ap}
 use Prim.Native.Nat.{ℕ, suc, _+_, _-_, _*_, _^_, _≤_, _<_}
 use native.Mathlib.Nat.{add-zero, one-mul, mul-assoc, mul-comm, mul-left-comm, mul-le-mul-left, mul-le-mul-right, le-trans, le-of-eq}
 use native.Mathlib.Decide.{decLe}
@@ -8,7 +8,7 @@ use native.Mathlib.Omega.{arith}
 use lib.Dec.{T}
 use lib.Pow.{pow-add, pow-mono}
 use lib.IntN.{ℤ, natAbs}
-use lib.Ieee.{Float, Format, prec}
+use lib.Ieee.{Float, Format, binary32, binary64, prec, emax, low}
 use lib.Ieee.Fits.{two}
 use lib.Ieee.Scale.{finite}
 use Rattle.binary32.specs.Nearest.{distance, RoundsTo}
@@ -16,6 +16,12 @@ use Rattle.binary32.specs.HalfUnit.{leastNormal, WithinHalfUnit}
 use Rattle.binary32.proofs.Magnitude.{pow-split}
 use Rattle.binary32.proofs.NearestSize.{gap, NearestSize, Leading, leading, step, short-of}
 use Rattle.binary32.proofs.Delivered.{delivered-size}
+
+-- the least normal number is 2 ^ emin, and emin is 1 - emax: 2 ^ (emax - 1) times that is 1, which is 2 ^ low units
+pub least-normal : (f : Format) → leastNormal f * 2 ^ (emax f - 1) ≡ 2 ^ low f
+unfolding leastNormal
+least-normal binary32 = refl
+least-normal binary64 = refl
 
 -- 2 ^ prec is twice the least normal number
 pub twice-normal : (f : Format) → 2 ^ prec f ≡ leastNormal f * 2

@@ -40,19 +40,20 @@ pub record Near (f : Format) (z : Float) (p n c e : ℕ) : Type 0 where
 -- ---- what is known of every rounding
 
 pub record Error (f : Format) (z : Float) (p n c : ℕ) : Type 0 where
-  -- z lies within e units of an exact result of at most 2 ^ prec * e units, whatever e is
-  pub near : (e : ℕ) → 2 ^ prec f * e < bound f → gap p n ≤ 2 ^ prec f * e * c → Near f z p n c e
-  -- where e is a power of two, the exact result may be twice as large
-  pub near-power : (k : ℕ) → 2 ^ (prec f + suc k) < bound f → gap p n ≤ 2 ^ (prec f + suc k) * c → Near f z p n c (2 ^ k)
+  -- an exact result under the bound is rounded to a finite number
+  pub finite : {b : ℕ} → b < bound f → gap p n ≤ b * c → Finite f z
+  -- a finite z lies within half of 2 ^ k units of an exact result of at most 2 ^ (prec + k) units: sharp at a power of two
+  pub half : Finite f z → (k : ℕ) → gap p n ≤ 2 ^ (prec f + k) * c → 2 * apart f z p n c ≤ 2 ^ k * c
+  -- within e units of one of at most 2 ^ prec * e units, whatever e is
+  pub near : Finite f z → (e : ℕ) → gap p n ≤ 2 ^ prec f * e * c → Near f z p n c e
   -- and by the size itself, with half of a unit for what is small
-  pub near-size : Finite f z → 2 ^ prec f * apart f z p n c ≤ gap p n + leastNormal f * c
+  pub by-size : Finite f z → 2 ^ prec f * apart f z p n c ≤ gap p n + leastNormal f * c
 
 module _ {f : Format} {z : Float} {p n c : ℕ} (r : Rounded f z p n c) (C : 0 < c) where
   delivered : RoundsTo f (subℕ p n) c z
   delivered = rounds-to r (difference p n) C
 
-  -- an exact result under the bound is rounded to a finite number
-  pub rounded-finite : {b : ℕ} → b < bound f → gap p n ≤ b * c → Finite f z
+  rounded-finite : {b : ℕ} → b < bound f → gap p n ≤ b * c → Finite f z
   rounded-finite {b} room most =
       let under : natAbs (subℕ p n) < bound f * c =
       lt-of-le-of-lt (le-trans (le-of-eq (size-of (difference p n))) most) (mul-lt-mul-of-pos-right room C) in
@@ -61,24 +62,24 @@ module _ {f : Format} {z : Float} {p n c : ℕ} (r : Rounded f z p n c) (C : 0 <
 
   -- `WithinHalfUnit` in natural numbers
   module _ (h : Finite f z) where
-    half : WithinHalfUnit f (subℕ p n) c z
-    half = half-unit (h .finite) delivered C
+    within-half : WithinHalfUnit f (subℕ p n) c z
+    within-half = half-unit (h .finite) delivered C
 
     -- a fact about integers, said of the pair
     in-pair : (P : ℕ → ℕ → Type 0) → P (natAbs (subℕ p n)) (distance f (subℕ p n) c z) → P (gap p n) (apart f z p n c)
     in-pair P = subst₂ P (size-of (difference p n)) (distance-apart f z c (difference p n))
 
     half-place : (k : ℕ) → gap p n ≤ 2 ^ (prec f + k) * c → 2 * apart f z p n c ≤ 2 ^ k * c
-    half-place k = in-pair (λ a d. a ≤ 2 ^ (prec f + k) * c → 2 * d ≤ 2 ^ k * c) (half .last-place k)
+    half-place k = in-pair (λ a d. a ≤ 2 ^ (prec f + k) * c → 2 * d ≤ 2 ^ k * c) (within-half .last-place k)
 
     half-normal : leastNormal f * c ≤ gap p n → 2 ^ prec f * apart f z p n c ≤ gap p n
-    half-normal = in-pair (λ a d. leastNormal f * c ≤ a → 2 ^ prec f * d ≤ a) (half .normal)
+    half-normal = in-pair (λ a d. leastNormal f * c ≤ a → 2 ^ prec f * d ≤ a) (within-half .normal)
 
     half-subnormal : gap p n < leastNormal f * c → 2 * apart f z p n c ≤ c
-    half-subnormal = in-pair (λ a d. a < leastNormal f * c → 2 * d ≤ c) (half .subnormal)
+    half-subnormal = in-pair (λ a d. a < leastNormal f * c → 2 * d ≤ c) (within-half .subnormal)
 
-    by-size : 2 ^ prec f * apart f z p n c ≤ gap p n + leastNormal f * c
-    by-size = in-pair (λ a d. 2 ^ prec f * d ≤ a + leastNormal f * c) (distance-most half)
+    sized : 2 ^ prec f * apart f z p n c ≤ gap p n + leastNormal f * c
+    sized = in-pair (λ a d. 2 ^ prec f * d ≤ a + leastNormal f * c) (distance-most within-half)
 
     -- what is under the least normal number is within one unit, and nothing is rounded to nothing
     small-within : (e : ℕ) → gap p n ≤ 2 ^ prec f * e * c → 2 * apart f z p n c ≤ c → apart f z p n c ≤ e * c
@@ -100,12 +101,24 @@ module _ {f : Format} {z : Float} {p n c : ℕ} (r : Rounded f z p n c) (C : 0 <
 
   pub error : Error f z p n c
   error = record {
-    near = λ e room most. let h = rounded-finite room most in record { finite = h; within = within-size h e most };
-    near-power = λ k room most.
-        let h = rounded-finite room most in
-        record { finite = h; within = omega (arith, half-place h (suc k) most, ap (λ (a : ℕ). a * c) (pow-suc 2 k), mul-right-comm (2 ^ k) 2 c) };
-    near-size = by-size;
+    finite = rounded-finite;
+    half = half-place;
+    near = λ h e most. record { finite = h; within = within-size h e most };
+    by-size = sized;
   }
+
+module _ {f : Format} {z : Float} {p n c : ℕ} (error : Error f z p n c) where
+  -- where e is a power of two, the exact result may be twice as large
+  pub near-power : Finite f z → (k : ℕ) → gap p n ≤ 2 ^ (prec f + suc k) * c → Near f z p n c (2 ^ k)
+  near-power h k most =
+      record { finite = h; within = omega (arith, error .half h (suc k) most, ap (λ (a : ℕ). a * c) (pow-suc 2 k), mul-right-comm (2 ^ k) 2 c) }
+
+  -- most programs know of the size that it is under the bound, and so that z is finite
+  pub near-under : (e : ℕ) → 2 ^ prec f * e < bound f → gap p n ≤ 2 ^ prec f * e * c → Near f z p n c e
+  near-under e room most = error .near (error .finite room most) e most
+
+  pub power-under : (k : ℕ) → 2 ^ (prec f + suc k) < bound f → gap p n ≤ 2 ^ (prec f + suc k) * c → Near f z p n c (2 ^ k)
+  power-under k room most = near-power (error .finite room most) k most
 
 -- ---- the four operations
 

@@ -18,7 +18,7 @@ use Rattle.binary32.proofs.RoundedSize.{over-and-under}
 use Rattle.binary32.proofs.NearestSize.{gap}
 use Rattle.binary32.proofs.Integers.{natural, whole-difference, sum-of, negated-of, times-of, product-of}
 use Rattle.binary32.proofs.Products.{unit, unit-finite, over-unit, under-unit, Factor, factor-over, factor-under}
-use Rattle.binary32.proofs.Near.{apart, distance-apart, Near, add-error, sub-error, mul-error, div-error, gap-times, near-from}
+use Rattle.binary32.proofs.Near.{apart, distance-apart, Near, add-error, sub-error, mul-error, div-error, power-under, gap-times, near-from}
 
 -- ---- binary32: b + s * d, where b and s lie in 0..1 and d in -1..1, is within 2 ^ -24 + 2 ^ -25 of the exact value
 
@@ -41,13 +41,13 @@ module _ {b s d : Float} (hb : Factor binary32 b) (hs : Factor binary32 s) (hd :
   product : Near binary32 (s *f d)
       (over binary32 s * over binary32 d + under binary32 s * under binary32 d) (over binary32 s * under binary32 d + under binary32 s * over binary32 d) (2 ^ 149) (2 ^ 124)
   unfolding bound
-  product = mul-error (hs .number) hd .near-power 124 (lit< tt) (rw (hs .from) (product-most (2 ^ 149) _ _ _ (hs .to) within-one))
+  product = power-under (mul-error (hs .number) hd) 124 (lit< tt) (rw (hs .from) (product-most (2 ^ 149) _ _ _ (hs .to) within-one))
 
   -- the sum is at most 2 in size, and so within 2 ^ -24
   sum : Near binary32 (b +f s *f d) (over binary32 b + over binary32 (s *f d)) (under binary32 b + under binary32 (s *f d)) 1 (2 ^ 125)
   unfolding bound
   sum =
-      add-error (hb .number) (product .finite) .near-power 125 (lit< tt)
+      power-under (add-error (hb .number) (product .finite)) 125 (lit< tt)
       (rw (hb .from) (sum-most (2 ^ 149) (2 ^ 150) _ _ _ _ _ refl (hb .to) (factor-over hs hd) (factor-under hs hd) within-one))
 
   pub scaled-sum-within :
@@ -89,7 +89,7 @@ module _ {x : Float} (hx : Finite binary64 x) (plus : under binary64 x ≡ 0) (m
   -- the quotient is at most 16 in size, and so within 2 ^ -50
   quotient : Near binary64 (div binary64 x six) (over binary64 x * 2 ^ 1074) (under binary64 x * 2 ^ 1074) (6 * 2 ^ 1074) (2 ^ 1024)
   unfolding bound six ofBits negative magnitude
-  quotient = div-error hx six-finite (lit< tt) .near-power 1024 (lit< tt) (rw plus (quotient-most (2 ^ 1074) (2 ^ 1078) (over binary64 x) most refl))
+  quotient = power-under (div-error hx six-finite (lit< tt)) 1024 (lit< tt) (rw plus (quotient-most (2 ^ 1074) (2 ^ 1078) (over binary64 x) most refl))
 
   quotient-apart : gap (over binary64 x + under binary64 (div binary64 x six) * 6) (under binary64 x + over binary64 (div binary64 x six) * 6) ≤ 2 ^ 1024 * 6
   unfolding apart
@@ -100,7 +100,7 @@ module _ {x : Float} (hx : Finite binary64 x) (plus : under binary64 x ≡ 0) (m
       (over binary64 unit + under binary64 (div binary64 x six)) (under binary64 unit + over binary64 (div binary64 x six)) 1 (2 ^ 1024)
   unfolding bound
   difference =
-      sub-error (unit-finite binary64) (quotient .finite) .near-power 1024 (lit< tt)
+      power-under (sub-error (unit-finite binary64) (quotient .finite)) 1024 (lit< tt)
       (rw (over-unit binary64, under-unit binary64)
       (difference-most (2 ^ 1074) (2 ^ 1078) (over binary64 x) _ _ (2 ^ 1024) most refl (lit≤ tt) (rw plus at quotient-apart)))
 

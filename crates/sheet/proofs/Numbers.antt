@@ -1,14 +1,15 @@
--- The numbers that a sheet by itself can be told, and that 9, which is about an output, is none of them. Assumes nothing.
-use mathlib.Core.Path.{_≡_, subst}
+-- The numbers that a sheet by itself can be told, just these, and that 9, which is about an output, is none of them. Assumes nothing.
+use mathlib.Core.Path.{_≡_, refl, subst}
 use mathlib.Core.Bool.{Bool, false, not, _&&_, _||_}
-use mathlib.Core.List.{List, [], _∷_}
+use mathlib.Core.List.{List, [], _∷_, map}
 use Prim.Native.Nat.{ℕ, zero, suc}
 use lib.Dec.{T, ltb, eqb}
 use lib.ListN.{length}
 use Rattle.refusals.specs.Numbers.{accepted, tooShort, badVersion, tooMany, badLength, badKind, badRotor, badOffset, badEnd, shortOutput}
-use Rattle.refusals.specs.Told.{given}
+use Rattle.refusals.specs.Told.{given, first, atEntry}
 use Rattle.refusals.proofs.First.{given-keeps, first-keeps, entry-keeps}
-use Rattle.entries.specs.Layout.{versionOf, countOf, lengthField, entryAt, kindOf, rotorOf, offsetOf, bodyAt}
+use Rattle.wire.specs.Bytes.{littleEndian, readAt}
+use Rattle.entries.specs.Layout.{versionOf, countOf, lengthField, entryAt, kindOf, rotorOf, offsetOf, bodySize, bodyAt}
 use Rattle.entries.specs.Choice.{choiceNumber}
 use Rattle.sheet.specs.Table.{maxEntries, entryNumber, headNumber, endNumber, entriesTold, judged}
 
@@ -67,3 +68,23 @@ judged-own s = entry-keeps SheetNumber _ 0 _ (head-own s) (entries-own s 0 (coun
 
 pub never-nine : (s : List ℕ) → judged s .number ≡ shortOutput → ⊥
 never-nine s e = subst SheetNumber e (judged-own s)
+
+-- ---- and the list has none too many: each is told of some sheet
+
+-- a sheet for each, in the list's order
+pub sheets : List (List ℕ)
+sheets =
+    (1 ∷ 0 ∷ 4 ∷ 0 ∷ [])
+    ∷ []
+    ∷ (2 ∷ 0 ∷ 4 ∷ 0 ∷ [])
+    ∷ (1 ∷ 65 ∷ 4 ∷ 0 ∷ [])
+    ∷ (1 ∷ 0 ∷ 5 ∷ 0 ∷ [])
+    ∷ (1 ∷ 1 ∷ 8 ∷ 0 ∷ 5 ∷ 0 ∷ 8 ∷ 0 ∷ [])
+    ∷ (1 ∷ 1 ∷ 8 ∷ 0 ∷ 0 ∷ 1 ∷ 8 ∷ 0 ∷ [])
+    ∷ (1 ∷ 1 ∷ 8 ∷ 0 ∷ 0 ∷ 0 ∷ 9 ∷ 0 ∷ [])
+    ∷ (1 ∷ 1 ∷ 8 ∷ 0 ∷ 0 ∷ 0 ∷ 8 ∷ 0 ∷ [])
+    ∷ []
+
+pub each-told : map (λ (s : List ℕ). judged s .number) sheets ≡ sheetNumbers
+unfolding sheets judged headNumber endNumber entriesTold entryNumber choiceNumber first atEntry bodyAt bodySize readAt littleEndian
+each-told = refl

@@ -4,11 +4,10 @@ use Prim.Native.Nat.{ℕ}
 use native.Mathlib.Omega.{arith}
 use borrow.Author.Needs.{needs}
 use borrow.Author.Tests.{lt-ltb, le-ltb}
-use Rattle.entries.specs.declared.choice.Choice.the-variants.{Is}
 use Rattle.entries.specs.declared.refusal.Refusal.the-variants.{BadKind, BadRotor}
 use Rattle.entries.specs.Choice.{failedOf, caseOf, ChosenBy}
 use Rattle.entries.proofs.Answers.{case-chosen, refusal-chosen}
-use Rattle.entries.proofs.Numbers.{kind-refused, rotor-refused, rotor-passed, none-refused}
+use Rattle.entries.proofs.Numbers.{kind-refused, rotor-refused, none-refused}
 use Rattle.entries.proofs.choice.choose.Statement.{statement}
 use Rattle.entries.proofs.choice.choose.Tie as tie
 
@@ -23,8 +22,7 @@ returns-2 c = rw (c .before .match .keys1) (case-chosen (none-refused _) (rw (le
 returns-3 : tie.Need-returns-3
 returns-3 c =
     let kind = c .before .before .before .before .args .kind in
-    subst (λ (rotor : ℕ). ChosenBy kind rotor (Is (c .unlost .result))) (sym (c .before .match2 .keys1))
-    (case-chosen (rotor-passed kind (c .before .before .if2 .taken)) (c .unlost .ensures))
+    subst (λ (rotor : ℕ). ChosenBy kind rotor (c .unlost .result)) (sym (c .before .match2 .keys1)) (c .unlost .ensures)
 
 returns-4 : tie.Need-returns-4
 returns-4 c =
