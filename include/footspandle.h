@@ -41,7 +41,7 @@
  * treated: a NaN or an infinity becomes +0; any other number stays.
  * limited: treated; then under 0 becomes +0 and over 1 becomes 1. A -0 stays -0.
  * floor:   the least command of a motor that runs. Every function that takes one limits it first,
- *          so that a floor which is a NaN or an infinity counts as 0; "the floor" below is that.
+ *          so that a floor which is a NaN or an infinity counts as 0; "the floor" is that.
  * thrust:  the collective, meant from 0 to 1. Every number is taken.
  * torque:  torque_body is roll, pitch and yaw, in that order, meant from -1 to 1. Every number is
  *          taken.
@@ -214,7 +214,8 @@ void footspandle_quad_mix_airmode(footspandle_quad *state, const float torque_bo
  * can turn the roll or pitch that was asked for round (docs/DIFFERENCES.md, F17 and F18).
  * The recorded scale becomes 1, whatever was given.
  */
-void footspandle_quad_mix_rotor_out(footspandle_quad *state, size_t failed, const float torque_body[3], float thrust, float floor);
+void footspandle_quad_mix_rotor_out(footspandle_quad *state, size_t failed, const float torque_body[3], float thrust,
+                                    float floor);
 
 /*
  * The roll, pitch and yaw that four motors give by the quad's rows: sums from +0 on, M1 first, and
@@ -254,7 +255,8 @@ void footspandle_mixer_n_mix(const float mix[32], size_t n, const float torque_b
  * treated and the matrix is not, so that a sum is a NaN where its operations lead to one: a NaN in the
  * matrix, an infinity in it times zero, or infinities that cancel, those of an overflow among them.
  */
-void footspandle_mixer_n_achieved_wrench(const float mix[32], size_t n, const float motors[8], footspandle_wrench *wrench);
+void footspandle_mixer_n_achieved_wrench(const float mix[32], size_t n, const float motors[8],
+                                         footspandle_wrench *wrench);
 
 /* ---- any frame, by lent rows ------------------------------------------------------------------ */
 
@@ -270,7 +272,8 @@ float footspandle_clamp01(float x);
  * rows_length other than 4 * out_length, is refused with 10, and the outputs stay as they were. No
  * outputs with no rows are accepted, and nothing is written.
  */
-uint32_t footspandle_mixer_mix(const float *rows, size_t rows_length, const footspandle_wrench *w, float *out, size_t out_length);
+uint32_t footspandle_mixer_mix(const float *rows, size_t rows_length, const footspandle_wrench *w,
+                               float *out, size_t out_length);
 
 /*
  * Thrust-floor for any frame: keeps the thrust, and gives up torque by one scale over all rotors. Rows
@@ -290,10 +293,11 @@ uint32_t footspandle_mixer_mix(const float *rows, size_t rows_length, const foot
  * were. No outputs with no rows are accepted: nothing is written to out, and the scale is 1.
  * While the call runs, out holds the deltas for a time (rule 3 of what the caller owes).
  */
-uint32_t footspandle_mixer_mix_thrust_floor(const float *rows, size_t rows_length, const footspandle_wrench *w, float floor, float *out, size_t out_length, float *scale);
+uint32_t footspandle_mixer_mix_thrust_floor(const float *rows, size_t rows_length, const footspandle_wrench *w,
+                                            float floor, float *out, size_t out_length, float *scale);
 
 /*
- * Writes the six rows of hex_x, as the two mixes above take them, each number as the nearest float:
+ * Writes the six rows of hex_x, as the two mixes take them, each number as the nearest float:
  * thrust 1, and roll, pitch, yaw -1,0,1; 1,0,-1; 0.5,-0.866,1; -0.5,0.866,-1; -0.5,-0.866,-1;
  * 0.5,0.866,1.
  */
@@ -353,7 +357,7 @@ uint32_t footspandle_sheet_check(const uint8_t *sheet, size_t sheet_length, uint
 size_t footspandle_sheet_body(const uint8_t *sheet, size_t sheet_length, size_t i, size_t *at);
 
 /*
- * Runs a sheet from a state: its commands as calls of the mixes above, one after another. Answers 0,
+ * Runs a sheet from a state: its commands as calls of the mixes, one after another. Answers 0,
  * or what footspandle_sheet_check does of a refused sheet, or 9, and stores the entry.
  * On 0 the state is that after the last call, and the answer of entry i stands in the bytes 20i to
  * 20i + 19 of the output: four motors and then the recorded scale after that call, each as the bits
@@ -362,7 +366,8 @@ size_t footspandle_sheet_body(const uint8_t *sheet, size_t sheet_length, size_t 
  * On any other number the output is as it was, byte by byte, and so is the state, but that a NaN in
  * it may be another NaN.
  */
-uint32_t footspandle_sheet_run(const uint8_t *sheet, size_t sheet_length, footspandle_quad *state, uint8_t *out, size_t out_length, uint32_t *entry);
+uint32_t footspandle_sheet_run(const uint8_t *sheet, size_t sheet_length, footspandle_quad *state,
+                               uint8_t *out, size_t out_length, uint32_t *entry);
 
 #ifdef __cplusplus
 }

@@ -5,14 +5,16 @@ import shutil
 import signal
 import subprocess
 
-from mutation.crates import CRATES, DEFINITIONS, LOGS, ROOT, WORK, crate_folder, die, files_below, is_program, read, write
+from mutation.crates import CRATES, DEFINITIONS, LOGS, ROOT, WORK
+from mutation.crates import crate_folder, die, files_below, is_program, read, write
 from mutation.sorting import sorted_from
 
 LIMIT = 300  # seconds for one check
 TREE = os.path.join(WORK, 'tree')
 
 def run(words, folder, seconds):
-    process = subprocess.Popen(words, cwd=folder, stdout=subprocess.PIPE, stderr=subprocess.STDOUT, start_new_session=True, env={**os.environ, 'RT_JOBS': '1', 'RT_CUT': '0'})
+    process = subprocess.Popen(words, cwd=folder, stdout=subprocess.PIPE, stderr=subprocess.STDOUT,
+                               start_new_session=True, env={**os.environ, 'RT_JOBS': '1', 'RT_CUT': '0'})
     try:
         said, _ = process.communicate(timeout=seconds)
         return process.returncode, said.decode('utf-8', 'replace')
@@ -30,7 +32,8 @@ def make_tree(crates):
     shutil.rmtree(os.path.join(TREE, 'crates'), ignore_errors=True)
     os.makedirs(TREE, exist_ok=True)
     shutil.copy(os.path.join(ROOT, 'crates.txt'), TREE)
-    shutil.copytree(os.path.join(ROOT, 'crates'), os.path.join(TREE, 'crates'), ignore=shutil.ignore_patterns('must-fail'))
+    shutil.copytree(os.path.join(ROOT, 'crates'), os.path.join(TREE, 'crates'),
+                    ignore=shutil.ignore_patterns('must-fail'))
     for part in ('rlib', 'stamp'):
         theirs, ours = os.path.join(ROOT, 'target', part), os.path.join(TREE, 'target', part)
         if os.path.isdir(theirs):
@@ -46,10 +49,12 @@ def make_tree(crates):
     for part in ('rlib', 'stamp'):
         shutil.copytree(os.path.join(TREE, 'target', part), os.path.join(proved, part), symlinks=True)
 
-# What was proved of the crates as they stand is put back. rt takes a crate's stamp away when it begins to prove it, so one that has its stamp was not touched.
+# What was proved of the crates as they stand is put back. rt takes a crate's stamp away when it begins to prove it, so
+# one that has its stamp was not touched.
 def restore(crates):
     for crate in crates:
-        stamps = [os.path.join(folder, 'stamp', crate) for folder in (os.path.join(TREE, 'target'), os.path.join(WORK, 'proved'))]
+        stamps = [os.path.join(folder, 'stamp', crate)
+                  for folder in (os.path.join(TREE, 'target'), os.path.join(WORK, 'proved'))]
         if all(os.path.exists(stamp) for stamp in stamps) and read(stamps[0]) == read(stamps[1]):
             continue
         for part in (f'rlib/{crate}.rlib', f'stamp/{crate}'):
@@ -70,13 +75,15 @@ def crates_over(crate):
             over.append(name)
     return over[1:]
 
-# The libraries over a crate of definitions: those that name the definition first, then those that name its file, then the others.
+# The libraries over a crate of definitions: those that name the definition first, then those that name its file, then
+# the others.
 def users_of(crate, file, name):
     module = os.path.basename(file)[:-5]
     libraries = [other for other in crates_over(crate) if not is_program(other)]
 
     def closeness(other):
-        text = ''.join(read(os.path.join(crate_folder(other), f)) for folder in ('src', 'specs', 'proofs') for f in files_below(other, folder, 't'))
+        text = ''.join(read(os.path.join(crate_folder(other), f))
+                       for folder in ('src', 'specs', 'proofs') for f in files_below(other, folder, 't'))
         brought = re.findall(rf'Rattle\.{crate}\.specs\.{module}\.\{{([^}}]*)\}}', text)
         return 0 if any(name in [x.strip() for x in names.split(',')] for names in brought) else 1 if brought else 2
 

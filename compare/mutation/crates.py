@@ -47,7 +47,8 @@ LIBRARIES = [name for name in CRATES if not is_program(name)]
 def files_below(crate, folder, ending):
     found = []
     for where, _, names in os.walk(os.path.join(crate_folder(crate), folder)):
-        found += [os.path.relpath(os.path.join(where, name), crate_folder(crate)) for name in names if name.endswith(ending)]
+        found += [os.path.relpath(os.path.join(where, name), crate_folder(crate))
+                  for name in names if name.endswith(ending)]
     return sorted(found)
 
 def crate_hash(crate):

@@ -7,8 +7,13 @@ from mutation.mutant import Mutant
 from mutation.edits import other_integers
 
 SPEC_TOKEN = re.compile(r'''(?P<int>0x[0-9a-fA-F_]+|(?<![\w/^])\d[\d_]*(?![\w/^]))|(?P<word>[^\s(){};,]+)''', re.X)
-SPEC_OPERATORS = {'+f': ('-f',), '-f': ('+f',), '*f': ('/f', '+f'), '/f': ('*f',), '+': ('*', '-'), '-': ('+',), '*': ('+',), '&&': ('||',), '||': ('&&',), '+ℤ': ('-ℤ', '*ℤ'), '-ℤ': ('+ℤ',), '*ℤ': ('+ℤ',)}
-SPEC_COMPARISONS = {'≤': ('<',), '<': ('≤',), 'lt': ('le',), 'le': ('lt',), 'ltb': ('leb', 'eqb'), 'leb': ('ltb',), 'eqb': ('ltb',)}
+SPEC_OPERATORS = {
+    '+f': ('-f',), '-f': ('+f',), '*f': ('/f', '+f'), '/f': ('*f',), '+': ('*', '-'), '-': ('+',), '*': ('+',),
+    '&&': ('||',), '||': ('&&',), '+ℤ': ('-ℤ', '*ℤ'), '-ℤ': ('+ℤ',), '*ℤ': ('+ℤ',),
+}
+SPEC_COMPARISONS = {
+    '≤': ('<',), '<': ('≤',), 'lt': ('le',), 'le': ('lt',), 'ltb': ('leb', 'eqb'), 'leb': ('ltb',), 'eqb': ('ltb',),
+}
 SPEC_CONSTANTS = {'0f': ('1f',), '1f': ('0f', 'small'), 'small': ('0f', '1f'), 'true': ('false',), 'false': ('true',)}
 
 # The names that a file brings in, an operator by its sign.
@@ -21,16 +26,19 @@ def brought_in(text):
 
 # The definitions of a file: name, type and the places of what it says, from one line to the next that begins anew.
 def definitions(text):
-    found, at, current = [], 0, None
+    found, at, current, head_of_record = [], 0, None, ''
     for line in text.splitlines(keepends=True):
         bare = line.strip()
         head = re.match(r'(?:unfoldable |abbrev )?(?:pub )?(\S+) : (.*)', line)
         if bare.startswith(('--', 'use ', 'infix', 'pub mod', 'unfolding')) or not bare:
             pass
-        elif line.startswith('pub record'):
-            match = re.match(r'pub record (\S+)(.*) : Type', line)
-            names = {name: of for names, of in re.findall(r'\(([^:()]*) : ([^()]*)\)', match.group(2)) for name in names.split()}
-            current = (match.group(1), 'record', names)
+        elif line.startswith('pub record') or head_of_record:
+            head_of_record += line
+            match = re.match(r'pub record (\S+)(.*)\s: Type', head_of_record, re.S)
+            if match:
+                parameters = re.findall(r'\(([^:()]*) : ([^()]*)\)', match.group(2))
+                names = {name: of for names, of in parameters for name in names.split()}
+                current, head_of_record = (match.group(1), 'record', names), ''
         elif current and current[1] == 'record' and line.startswith('  '):
             start = line.index(' : ') + 3 if ' : ' in line and line.startswith('  pub') else 0
             found.append((current[0], current[2], at + start, at + len(line)))
@@ -86,7 +94,8 @@ def all_types():
     types = {}
     for crate in LIBRARIES:
         for file in files_below(crate, 'specs', '.antt'):
-            for name, of in re.findall(r'^(?:unfoldable |abbrev )?(?:pub )?(\S+) : (.*)', read(os.path.join(crate_folder(crate), file)), re.M):
+            text = read(os.path.join(crate_folder(crate), file))
+            for name, of in re.findall(r'^(?:unfoldable |abbrev )?(?:pub )?(\S+) : (.*)', text, re.M):
                 types[name] = of
     return types
 

@@ -6,10 +6,16 @@ from mutation.mutant import Mutant
 from mutation.source import CLOSE, OPEN, after_bracket, split, type_text
 from mutation.names import type_of
 
-OPERATORS = {'+': ('-', '*'), '-': ('+', '*'), '*': ('+', '/'), '/': ('*', '-'), '%': ('/', '*'), '&&': ('||',), '||': ('&&',), '+=': ('-=', '*=')}
+OPERATORS = {
+    '+': ('-', '*'), '-': ('+', '*'), '*': ('+', '/'), '/': ('*', '-'), '%': ('/', '*'),
+    '&&': ('||',), '||': ('&&',), '+=': ('-=', '*='),
+}
 ZEROS = {'f32': '0.0', 'u8': '0', 'u16': '0', 'u32': '0', 'u64': '0', 'usize': '0'}
 COMPARISONS = ('<', '<=', '>', '>=', '==', '!=')
-KEYWORDS = {'let', 'mut', 'if', 'else', 'while', 'loop', 'for', 'in', 'match', 'return', 'as', 'true', 'false', 'break', 'continue', 'self', 'crate'}
+KEYWORDS = {
+    'let', 'mut', 'if', 'else', 'while', 'loop', 'for', 'in', 'match', 'return', 'as', 'true', 'false',
+    'break', 'continue', 'self', 'crate',
+}
 
 def next_float(text):
     bits = struct.unpack('<I', struct.pack('<f', float(text)))[0] + 1
@@ -18,7 +24,9 @@ def next_float(text):
         short = f'{value:.{digits}e}'
         if struct.pack('<f', float(short)) == struct.pack('<I', bits):
             mantissa, exponent = short.split('e')
-            return f'{mantissa}e{int(exponent)}' if int(exponent) not in (0, -1) else f'{value:.{digits + 1}f}'.rstrip('0')
+            if int(exponent) not in (0, -1):
+                return f'{mantissa}e{int(exponent)}'
+            return f'{value:.{digits + 1}f}'.rstrip('0')
     return None
 
 def other_floats(text):
@@ -71,7 +79,8 @@ def passed_over(body):
             over.update((i, i + 1))
     return over
 
-# The variables in scope at each token of a body, with their types: parameters, then what lets and patterns bind, each up to the end of its block or arm.
+# The variables in scope at each token of a body, with their types: parameters, then what lets and patterns bind, each
+# up to the end of its block or arm.
 def scopes(code, source, function):
     body, at = function.body, []
     bound = [(0, len(body), name, of) for name, of in function.parameters]
@@ -129,7 +138,8 @@ def edits_in(code, source, function, where, tokens, at):
             found.append(Mutant(source.crate, source.file, source.text, token.start, token.end, new, kind, where))
 
     def value_ends(i):  # whether a value ends before token i, so that a sign there is an operator between two
-        return i > 0 and (tokens[i - 1].kind in ('float', 'int') or tokens[i - 1].text in CLOSE or (tokens[i - 1].kind == 'name' and tokens[i - 1].text not in KEYWORDS - {'self'}))
+        return i > 0 and (tokens[i - 1].kind in ('float', 'int') or tokens[i - 1].text in CLOSE
+                          or (tokens[i - 1].kind == 'name' and tokens[i - 1].text not in KEYWORDS - {'self'}))
 
     def others(of, name, scope):
         if of is None:
@@ -148,7 +158,8 @@ def edits_in(code, source, function, where, tokens, at):
             for new in other_floats(word):
                 add(token, new, 'constant')
             if before != '-' or value_ends(i - 1):
-                found.append(Mutant(source.crate, source.file, source.text, token.start, token.start, '-', 'sign', where))
+                found.append(
+                    Mutant(source.crate, source.file, source.text, token.start, token.start, '-', 'sign', where))
         elif token.kind == 'int':
             if not (before == ';' and after == ']'):
                 for new in other_integers(word):
@@ -198,7 +209,8 @@ def in_struct(tokens, i):
             depth += 1
         elif tokens[i].text in OPEN:
             if depth == 0:
-                return tokens[i].text == '{' and i > 0 and tokens[i - 1].kind == 'name' and tokens[i - 1].text[0].isupper()
+                return (tokens[i].text == '{' and i > 0
+                        and tokens[i - 1].kind == 'name' and tokens[i - 1].text[0].isupper())
             depth -= 1
     return False
 
@@ -214,7 +226,8 @@ def other_callees(code, source, function, tokens, i):
     word, before = tokens[i].text, tokens[i - 1].text if i else ''
     after = tokens[i + 1].text if i + 1 < len(tokens) else ''
     if before == '.':
-        found = [m for owner in sorted({f.owner for s in code.sources for f in s.functions if f.owner}) for m in [code.methods(owner)] if word in m]
+        found = [m for owner in sorted({f.owner for s in code.sources for f in s.functions if f.owner})
+                 for m in [code.methods(owner)] if word in m]
         return [(f.name, 'callee') for m in found for f in m.values() if f.signature() == m[word].signature()]
     if before == '::':
         start = i
@@ -232,7 +245,8 @@ def other_callees(code, source, function, tokens, i):
     known = code.functions_in(source)
     if word not in known or after != '(':
         return []
-    return [(name, 'callee') for name, f in known.items() if f.signature() == known[word].signature() and f is not function]
+    return [(name, 'callee') for name, f in known.items()
+            if f.signature() == known[word].signature() and f is not function]
 
 # What a type's constants are: two for each.
 def constants_of(of):
@@ -251,7 +265,8 @@ def answers_in(source, function):
     lent = {name: of[4:].strip() for name, of in function.parameters if of and of.startswith('&mut')}
 
     def add(first, last, new):
-        found.append(Mutant(source.crate, source.file, source.text, first.start, last.end, new, 'answer', function.called))
+        found.append(
+            Mutant(source.crate, source.file, source.text, first.start, last.end, new, 'answer', function.called))
 
     for statement in split(body, ';'):
         if statement[-1] is body[-1]:
@@ -267,15 +282,19 @@ def answers_in(source, function):
                 add(statement[0], statement[-1], f'*{stored} = {new}')
     return found
 
-# Functions that are walked by hand: a walk is about one code, so that another is refused as not being that one (docs/DECISIONS.md, 74).
+# Functions that are walked by hand: a walk is about one code, so that another is refused as not being that one
+# (docs/DECISIONS.md, 74).
 WALKED = (('lent', 'src/lib.rt'),)
 
-# So a token of the contract is edited, which the code then fails to meet: what is left for what was found, and a float for another.
+# So a token of the contract is edited, which the code then fails to meet: what is left for what was found, and a float
+# for another.
 def contract_edits(source, function):
     at, floats = source.text.index(function.contract), [name for name, of in function.parameters if of == 'f32']
     others = {'exit': ['entry'], **{name: [other for other in floats if other != name] for name in floats}}
-    found = [(match, new) for word in others for match in re.finditer(rf'\b{word}\b', function.contract) for new in others[word]]
-    return [Mutant(source.crate, source.file, source.text, at + match.start(), at + match.end(), new, 'contract', function.called) for match, new in found]
+    found = [(match, new) for word in others for match in re.finditer(rf'\b{word}\b', function.contract)
+             for new in others[word]]
+    return [Mutant(source.crate, source.file, source.text, at + match.start(), at + match.end(), new, 'contract',
+                   function.called) for match, new in found]
 
 def mutants_of_code(code, crate):
     found = []

@@ -13,7 +13,8 @@ class Mutant:
         self.edited = (text[first:start] + new + text[end:last]).strip()
 
     def key(self):
-        return '\t'.join((self.crate, self.file, str(self.line), str(self.column), self.function, self.old or '-', self.new or '-', self.kind))
+        return '\t'.join((self.crate, self.file, str(self.line), str(self.column), self.function,
+                          self.old or '-', self.new or '-', self.kind))
 
     def __eq__(self, other):
         return self.key() == other.key()

@@ -1,7 +1,8 @@
 # How a refusal is sorted from its log: about a fact, or about the shape.
 import re
 
-# What an error says that is about values: of two statements, that they differ; of a goal, that it has no proof; of a function with no proof file, what is not shown.
+# What an error says that is about values: of two statements, that they differ; of a goal, that it has no proof; of a
+# function with no proof file, what is not shown.
 FACT = re.compile('|'.join((
     r'the two (types|sides|terms) (first differ|differ only) where',
     r'the two types are `',
@@ -16,7 +17,8 @@ FACT = re.compile('|'.join((
 # What it names when it is about how the code is made: the function as the code that it is, or a step of the proof file.
 SHAPE = re.compile(r'code\.function|prog\.Wp\.|(expected|found|but this has) type `\(c : |Need-')
 
-# The first error with the lines that belong to it, those passed over that only say that something they use is refused; where there is none, the first note.
+# The first error with the lines that belong to it, those passed over that only say that something they use is refused;
+# where there is none, the first note.
 def first_error(lines):
     errors = [i for i, line in enumerate(lines) if re.match(r'\S+: error', line) and 'was not admitted' not in line]
     begins = errors or [i for i, line in enumerate(lines) if line.startswith('note: ')] or [0]

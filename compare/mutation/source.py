@@ -59,7 +59,8 @@ class Function:
         self.called = f'{owner}::{name}' if owner else name
 
     def signature(self):
-        return tuple(of for _, of in self.parameters), self.result, self.owner if self.parameters and self.parameters[0][0] == 'self' else None
+        takes_self = self.parameters and self.parameters[0][0] == 'self'
+        return tuple(of for _, of in self.parameters), self.result, self.owner if takes_self else None
 
 class Source:
     def __init__(self, crate, file):

@@ -10,10 +10,11 @@ from mutation.results import explained
 # The edits that are kept outside the gate.
 OUTSIDE = os.path.join(os.path.dirname(os.path.dirname(os.path.realpath(__file__))), 'edits')
 
-# The edits of a crate that are kept, those that the gate tries first: where and by what label, file, and the function or
-# the definition that it edits.
+# The edits of a crate that are kept, those that the gate tries first: where and by what label, file, and the function
+# or the definition that it edits.
 def kept_edits(code, crate):
-    return edits_in(code, crate, 'must-fail', os.path.join(crate_folder(crate), 'must-fail')) + edits_in(code, crate, 'edits', os.path.join(OUTSIDE, crate))
+    return (edits_in(code, crate, 'must-fail', os.path.join(crate_folder(crate), 'must-fail'))
+            + edits_in(code, crate, 'edits', os.path.join(OUTSIDE, crate)))
 
 def edits_in(code, crate, where, folder):
     found = []
@@ -49,7 +50,8 @@ def unit_at(code, crate, file, old):
 def changed(m):
     return f'made `{m.edited}`' if m.edited else 'left out'
 
-# The wrong programs of a public function: kept edits, and edits that were refused about a fact and are not explained as equal programs; those of its own body and contract first, then those of what it uses.
+# The wrong programs of a public function: kept edits, and edits that were refused about a fact and are not explained as
+# equal programs; those of its own body and contract first, then those of what it uses.
 def wrong_programs(code, results, source, function):
     own, *used = used_by(code, source.crate, source, function)
     stated = re.findall(r'[^\s(){}⌜⌝]+', function.contract)
@@ -58,6 +60,9 @@ def wrong_programs(code, results, source, function):
 
     def of(units):
         wrong = [f'`{label}`' for unit in units for label, file, at in kept if (file, at) == unit]
-        return wrong + [f'line {m.line} of `{m.file}`, `{m.code}` {changed(m)}' for m in order if (m.file, m.function) in units and results.of(m)[0] == 'fact' and not explained(m)]
+        return wrong + [
+            f'line {m.line} of `{m.file}`, `{m.code}` {changed(m)}' for m in order
+            if (m.file, m.function) in units and results.of(m)[0] == 'fact' and not explained(m)]
 
-    return of([own]) + [f'`{label}`' for label, file, at in kept if file.startswith('specs/') and at in stated] + of(used)
+    return (of([own]) + [f'`{label}`' for label, file, at in kept if file.startswith('specs/') and at in stated]
+            + of(used))

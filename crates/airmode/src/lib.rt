@@ -1,6 +1,7 @@
-// The airmode mix: torque before thrust, with an idle floor. Follows relay-mix-quad's `mix_airmode` (Apache-2.0, see NOTICE); changed: written in Rattle with contracts, with
-// choices in the place of branches and the loops over four motors written out, and without the
-// tests there that never fail (a treated spread is finite, and so is the quotient by a spread over SMALL).
+// The airmode mix: torque before thrust, with an idle floor. Follows relay-mix-quad's `mix_airmode` (Apache-2.0, see
+// NOTICE); changed: written in Rattle with contracts, with choices in the place of branches and the loops over four
+// motors written out, and without the tests there that never fail (a treated spread is finite, and so is the quotient
+// by a spread over SMALL).
 use extremes::largest;
 use extremes::least;
 use number::SMALL;
@@ -56,8 +57,8 @@ fn shifted(idle: f32, m: [f32; 4]) -> [f32; 4]
     ]
 }
 
-// The torque is kept and the collective moved, so that each motor stays in idle..1; only a torque wider than that range is scaled. The thrust is not lifted to
-// idle first.
+// The torque is kept and the collective moved, so that each motor stays in idle..1; only a torque wider than that range
+// is scaled. The thrust is not lifted to idle first.
 pub fn motors(torque_body: [f32; 3], thrust: f32, idle: f32) -> [f32; 4]
     ensures { λ m. ⌜ m ≡ airmodeMotors quadRows «torque_body» thrust idle ⌝ }
 {

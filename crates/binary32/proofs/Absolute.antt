@@ -1,5 +1,6 @@
--- The size of a number is under a limit exactly where the number lies between the limit's negative and the limit: two comparisons in place of an absolute
--- value. It holds for every number, NaN and the infinities too, and for every limit that is finite and not negative. Assumes nothing.
+-- The size of a number is under a limit exactly where the number lies between the limit's negative and the limit: two
+-- comparisons in place of an absolute value. It holds for every number, NaN and the infinities too, and for every limit
+-- that is finite and not negative. Assumes nothing.
 use mathlib.Core.Path.{_≡_, refl, sym}
 use mathlib.Core.Bool.{Bool, true, false, _&&_}
 use Prim.Native.Nat.{ℕ, _+_, _*_}
@@ -28,7 +29,8 @@ after false u h = refl
 
 -- ---- the law, and the law at small
 
-pub absolute-below : (x : Float) (n : ℕ) (d : ℤ) → lt (absolute x) (fin false n d) ≡ lt x (fin false n d) && lt (neg (fin false n d)) x
+pub absolute-below : (x : Float) (n : ℕ) (d : ℤ)
+    → lt (absolute x) (fin false n d) ≡ lt x (fin false n d) && lt (neg (fin false n d)) x
 unfolding absolute lt neg
 absolute-below nan n d = refl
 absolute-below (inf true) n d = refl

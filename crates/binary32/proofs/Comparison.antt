@@ -1,4 +1,5 @@
--- The comparisons of numbers are those of a total order, in either format; and what is found in order is a number. Assumes nothing.
+-- The comparisons of numbers are those of a total order, in either format; and what is found in order is a number.
+-- Assumes nothing.
 use mathlib.Core.Path.{_≡_, sym, ap, _∙_}
 use mathlib.Core.Bool.{Bool, true, false, not, _||_, false≢true}
 use Prim.Native.Nat.{_+_, _≤_, _<_}
@@ -32,16 +33,20 @@ number-le x (fin t n d) h = tt
 
 -- ---- the order of the whole numbers, there and back
 
-pub lt-units : {f : Format} {x y : Float} → Number f x → Number f y → lt x y ≡ true → over f x + under f y < over f y + under f x
+pub lt-units : {f : Format} {x y : Float} → Number f x → Number f y → lt x y ≡ true
+    → over f x + under f y < over f y + under f x
 lt-units nx ny h = ltb-true _ _ (sym (lt-whole nx ny) ∙ h)
 
-pub units-lt : {f : Format} {x y : Float} → Number f x → Number f y → over f x + under f y < over f y + under f x → lt x y ≡ true
+pub units-lt : {f : Format} {x y : Float} → Number f x → Number f y → over f x + under f y < over f y + under f x
+    → lt x y ≡ true
 units-lt nx ny h = lt-whole nx ny ∙ lt-ltb _ _ h
 
-pub le-units : {f : Format} {x y : Float} → Number f x → Number f y → le x y ≡ true → over f x + under f y ≤ over f y + under f x
+pub le-units : {f : Format} {x y : Float} → Number f x → Number f y → le x y ≡ true
+    → over f x + under f y ≤ over f y + under f x
 le-units nx ny h = leb-true _ _ (sym (le-whole nx ny) ∙ h)
 
-pub units-le : {f : Format} {x y : Float} → Number f x → Number f y → over f x + under f y ≤ over f y + under f x → le x y ≡ true
+pub units-le : {f : Format} {x y : Float} → Number f x → Number f y → over f x + under f y ≤ over f y + under f x
+    → le x y ≡ true
 units-le nx ny h = le-whole nx ny ∙ le-leb _ _ h
 
 -- ---- the order is total
@@ -49,13 +54,15 @@ units-le nx ny h = le-whole nx ny ∙ le-leb _ _ h
 pub le-refl : {f : Format} {x : Float} → Number f x → le x x ≡ true
 le-refl n = units-le n n (omega arith)
 
-pub le-trans : {f : Format} {x y z : Float} → Number f x → Number f y → Number f z → le x y ≡ true → le y z ≡ true → le x z ≡ true
+pub le-trans : {f : Format} {x y z : Float} → Number f x → Number f y → Number f z → le x y ≡ true → le y z ≡ true
+    → le x z ≡ true
 le-trans nx ny nz p q =
     let first = le-units nx ny p in
     let second = le-units ny nz q in
     units-le nx nz (omega arith)
 
-pub less-trans : {f : Format} {x y z : Float} → Number f x → Number f y → Number f z → lt x y ≡ true → lt y z ≡ true → lt x z ≡ true
+pub less-trans : {f : Format} {x y z : Float} → Number f x → Number f y → Number f z → lt x y ≡ true → lt y z ≡ true
+    → lt x z ≡ true
 less-trans nx ny nz p q =
     let first = lt-units nx ny p in
     let second = lt-units ny nz q in

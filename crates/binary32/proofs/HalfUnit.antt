@@ -1,8 +1,10 @@
--- A number that is delivered lies within half a unit in the last place of the exact result: the two sizes next to a / c, of prec digits, are a step of 2 ^ k apart, and the
--- nearest size is no farther than the nearer of them. In either format. Assumes nothing.
+-- A number that is delivered lies within half a unit in the last place of the exact result: the two sizes next to
+-- a / c, of prec digits, are a step of 2 ^ k apart, and the nearest size is no farther than the nearer of them. In
+-- either format. Assumes nothing.
 use mathlib.Core.Path.{_≡_, refl, ap}
 use Prim.Native.Nat.{ℕ, suc, _+_, _-_, _*_, _^_, _≤_, _<_}
-use native.Mathlib.Nat.{add-zero, one-mul, mul-assoc, mul-comm, mul-left-comm, mul-le-mul-left, mul-le-mul-right, le-trans, le-of-eq}
+use native.Mathlib.Nat.{add-zero, one-mul, mul-assoc, mul-comm, mul-left-comm}
+use native.Mathlib.Nat.{mul-le-mul-left, mul-le-mul-right, le-trans, le-of-eq}
 use native.Mathlib.Decide.{decLe}
 use native.Mathlib.Omega.{arith}
 use lib.Dec.{T}
@@ -61,14 +63,16 @@ module _ {f : Format} {a c n : ℕ} (C : 0 < c) (N : NearestSize f a c n) where
               let M = 2 ^ prec f * 2 ^ k in
               let whole : 2 ^ (prec f + k) * c ≡ M * c = ap (λ (m : ℕ). m * c) (pow-add 2 (prec f) k) in
               let longer : 2 ^ (1 + k) * c ≤ 2 ^ l .shift * c = mul-le-mul-right c (pow-mono (omega arith)) in
-              let reached : leastNormal f * (2 ^ (1 + k) * c) ≤ a = le-trans (mul-le-mul-left (leastNormal f) longer) (many-steps l (omega arith)) in
+              let reached : leastNormal f * (2 ^ (1 + k) * c) ≤ a =
+              le-trans (mul-le-mul-left (leastNormal f) longer) (many-steps l (omega arith)) in
               let same : M * c ≡ leastNormal f * (2 ^ (1 + k) * c) = simp (twice-normal f, pow-add, mul-assoc) in
               omega (arith, N .nearest M (short-of f k (2 ^ prec f) (omega arith)))
 
   -- half of a unit times 2 ^ prec is the least normal number
   by-steps : (u : ℕ) → 2 * gap a (n * c) ≤ u → leastNormal f * u ≤ a → 2 ^ prec f * gap a (n * c) ≤ a
   by-steps u h reach =
-      rw (twice-normal f, mul-assoc (leastNormal f) 2 (gap a (n * c))) (le-trans (mul-le-mul-left (leastNormal f) h) reach)
+      rw (twice-normal f, mul-assoc (leastNormal f) 2 (gap a (n * c)))
+      (le-trans (mul-le-mul-left (leastNormal f) h) reach)
 
   pub size-normal : leastNormal f * c ≤ a → 2 ^ prec f * gap a (n * c) ≤ a
   size-normal least = go (leading f a c C)
@@ -77,18 +81,22 @@ module _ {f : Format} {a c n : ℕ} (C : 0 < c) (N : NearestSize f a c n) where
       go l = cut (decLe (l .shift) 0)
         where
           cut : Dec (l .shift ≤ 0) → 2 ^ prec f * gap a (n * c) ≤ a
-          cut (yes h) = by-steps c (le-trans (half-step l) (le-trans (mul-le-mul-right c (pow-mono h)) (le-of-eq (one-mul c)))) least
+          cut (yes h) =
+              by-steps c
+              (le-trans (half-step l) (le-trans (mul-le-mul-right c (pow-mono h)) (le-of-eq (one-mul c)))) least
           cut (no h) = by-steps (2 ^ l .shift * c) (half-step l) (many-steps l (omega arith))
 
   -- up to the least normal number, and a little farther, one unit is the step
   pub size-subnormal : a < leastNormal f * c → 2 * gap a (n * c) ≤ c
   size-subnormal less =
-      let twice : 2 ^ (prec f + 0) * c ≡ 2 * (leastNormal f * c) = simp (add-zero, twice-normal f, mul-comm, mul-left-comm) in
+      let twice : 2 ^ (prec f + 0) * c ≡ 2 * (leastNormal f * c) =
+      simp (add-zero, twice-normal f, mul-comm, mul-left-comm) in
       le-trans (size-last-place 0 (omega arith)) (le-of-eq (one-mul c))
 
 -- ---- numbers: a finite z is delivered for p / c units
 
-pub half-unit : {f : Format} {z : Float} {p : ℤ} {c : ℕ} → T (finite z) → RoundsTo f p c z → 0 < c → WithinHalfUnit f p c z
+pub half-unit : {f : Format} {z : Float} {p : ℤ} {c : ℕ} → T (finite z) → RoundsTo f p c z → 0 < c
+    → WithinHalfUnit f p c z
 half-unit {f} {z} {p} {c} t r C =
     let size = delivered-size t r C in
     record {
@@ -98,7 +106,8 @@ half-unit {f} {z} {p} {c} t r C =
     }
 
 -- the two cases as one inequality
-pub distance-most : {f : Format} {z : Float} {p : ℤ} {c : ℕ} → WithinHalfUnit f p c z → 2 ^ prec f * distance f p c z ≤ natAbs p + leastNormal f * c
+pub distance-most : {f : Format} {z : Float} {p : ℤ} {c : ℕ} → WithinHalfUnit f p c z
+    → 2 ^ prec f * distance f p c z ≤ natAbs p + leastNormal f * c
 distance-most {f} {z} {p} {c} w = go (decLe (leastNormal f * c) (natAbs p))
   where
     go : Dec (leastNormal f * c ≤ natAbs p) → 2 ^ prec f * distance f p c z ≤ natAbs p + leastNormal f * c

@@ -1,5 +1,6 @@
--- From the integers of the statements to the pairs of natural numbers of the proofs, and back: `Difference z p n` says that z is p - n. Sums, products
--- and the order of integers are those of such pairs, and `rounding` of an integer is the rounding of its pair. Assumes nothing.
+-- From the integers of the statements to the pairs of natural numbers of the proofs, and back: `Difference z p n` says
+-- that z is p - n. Sums, products and the order of integers are those of such pairs, and `rounding` of an integer is
+-- the rounding of its pair. Assumes nothing.
 use mathlib.Core.Path.{_≡_, refl, ap}
 use Prim.Native.Nat.{ℕ, zero, suc, _+_, _-_, _*_, _≤_, _<_}
 use native.Mathlib.Nat.{add-mul, mul-add, mul-zero}
@@ -31,7 +32,7 @@ difference p n = go (ltb p n) refl
     go true e = let h : p < n = ltb-true p n e in record { is = omega arith }
     go false e = let h : n ≤ p = ltb-false p n e in record { is = omega arith }
 
--- a number's whole number, and what it counts above and below zero
+-- a number's whole number, and what it counts over and under zero
 pub whole-difference : (f : Format) (x : Float) → Difference (wholeOf f x) (over f x) (under f x)
 unfolding wholeOf
 whole-difference f x = difference (over f x) (under f x)
@@ -71,11 +72,13 @@ order-to {z = negsuc a} {w = negsuc b} hz hw h = record { le = le→leb b a (ome
 -- the same, as tests
 pub lt-test : {z w : ℤ} {p n q m : ℕ} → Difference z p n → Difference w q m → ltb (p + m) (q + n) ≡ ltZ z w
 lt-test {z = pos a} {w = pos b} {p} {n} {q} {m} hz hw =
-    same-test (ltb (p + m) (q + n)) (ltb a b) (λ t. lt→ltb a b (omega (arith, ltb→lt (p + m) (q + n) t))) (λ t. lt→ltb (p + m) (q + n) (omega (arith, ltb→lt a b t)))
+    same-test (ltb (p + m) (q + n)) (ltb a b) (λ t. lt→ltb a b (omega (arith, ltb→lt (p + m) (q + n) t)))
+    (λ t. lt→ltb (p + m) (q + n) (omega (arith, ltb→lt a b t)))
 lt-test {z = pos a} {w = negsuc b} {p} {n} {q} {m} hz hw = le-ltb (p + m) (q + n) (omega arith)
 lt-test {z = negsuc a} {w = pos b} {p} {n} {q} {m} hz hw = lt-ltb (p + m) (q + n) (omega arith)
 lt-test {z = negsuc a} {w = negsuc b} {p} {n} {q} {m} hz hw =
-    same-test (ltb (p + m) (q + n)) (ltb b a) (λ t. lt→ltb b a (omega (arith, ltb→lt (p + m) (q + n) t))) (λ t. lt→ltb (p + m) (q + n) (omega (arith, ltb→lt b a t)))
+    same-test (ltb (p + m) (q + n)) (ltb b a) (λ t. lt→ltb b a (omega (arith, ltb→lt (p + m) (q + n) t)))
+    (λ t. lt→ltb (p + m) (q + n) (omega (arith, ltb→lt b a t)))
 
 pub le-test : {z w : ℤ} {p n q m : ℕ} → Difference z p n → Difference w q m → leb (p + m) (q + n) ≡ leZ z w
 le-test {z} {w} {p} {n} {q} {m} hz hw =
@@ -118,10 +121,13 @@ less-by : (k : ℕ) {p n : ℕ} → n ≡ p + k → Difference (negℤ (pos k)) 
 less-by zero h = record { is = omega arith }
 less-by (suc k) h = record { is = h }
 
-pub product-of : {z w : ℤ} {p n q m : ℕ} → Difference z p n → Difference w q m → Difference (z *ℤ w) (p * q + n * m) (p * m + n * q)
+pub product-of : {z w : ℤ} {p n q m : ℕ} → Difference z p n → Difference w q m
+    → Difference (z *ℤ w) (p * q + n * m) (p * m + n * q)
 product-of {z = pos a} {w = pos b} hz hw = record { is = simp (hz .is, hw .is, mul-add, add-mul) (omega arith) }
-product-of {z = pos a} {w = negsuc b} hz hw = less-by (a * suc b) (simp (hz .is, hw .is, mul-add, add-mul) (omega arith))
-product-of {z = negsuc a} {w = pos b} hz hw = less-by (suc a * b) (simp (hz .is, hw .is, mul-add, add-mul) (omega arith))
+product-of {z = pos a} {w = negsuc b} hz hw =
+    less-by (a * suc b) (simp (hz .is, hw .is, mul-add, add-mul) (omega arith))
+product-of {z = negsuc a} {w = pos b} hz hw =
+    less-by (suc a * b) (simp (hz .is, hw .is, mul-add, add-mul) (omega arith))
 product-of {z = negsuc a} {w = negsuc b} hz hw = record { is = simp (hz .is, hw .is, mul-add, add-mul) (omega arith) }
 
 -- a multiple
@@ -135,10 +141,12 @@ size-of {z = negsuc a} h = omega arith
 
 -- ---- rounding
 
-pub rounding-rounded : {z : ℤ} {p n : ℕ} (f : Format) (c : ℕ) → Difference z p n → 0 < c → Rounded f (rounding f z c) p n c
+pub rounding-rounded : {z : ℤ} {p n : ℕ} (f : Format) (c : ℕ) → Difference z p n → 0 < c
+    → Rounded f (rounding f z c) p n c
 unfolding rounding
 rounding-rounded {z = pos a} {p} {n} f c h C = by-difference (round-positive f a c C) p n (omega arith)
 rounding-rounded {z = negsuc a} {p} {n} f c h C = by-difference (round-minus f (suc a) c C) p n (omega arith)
 
-pub is-rounding : {f : Format} {x : Float} {z : ℤ} {p n c : ℕ} → Rounded f x p n c → Difference z p n → 0 < c → eq x (rounding f z c) ≡ true
+pub is-rounding : {f : Format} {x : Float} {z : ℤ} {p n c : ℕ} → Rounded f x p n c → Difference z p n → 0 < c
+    → eq x (rounding f z c) ≡ true
 is-rounding {f} {c} hx h C = one-rounding hx (rounding-rounded f c h C)

@@ -1,5 +1,5 @@
--- The last digit of a size, of those that the format keeps: it is the parity of the bit pattern, and of the q of a size q * 2 ^ k that is written with as many
--- digits as the format has, or with no shift. In either format. Assumes nothing.
+-- The last digit of a size, of those that the format keeps: it is the parity of the bit pattern, and of the q of a size
+-- q * 2 ^ k that is written with as many digits as the format has, or with no shift. In either format. Assumes nothing.
 use mathlib.Core.Path.{_≡_, refl, sym, ap, _∙_, subst}
 use mathlib.Core.Logic.{inl, inr}
 use mathlib.Core.Bool.{Bool, true, false, cond}
@@ -34,7 +34,8 @@ hid-even f =
     omega arith
 
 sign-even : (f : Format) (s : Bool) → cond s (top f) 0 % 2 ≡ 0
-sign-even f true = subst (λ (n : ℕ). n % 2 ≡ 0) (mul-comm (suc (ones f)) (hid f)) (even-times (hid f) (suc (ones f)) (hid-even f))
+sign-even f true =
+    subst (λ (n : ℕ). n % 2 ≡ 0) (mul-comm (suc (ones f)) (hid f)) (even-times (hid f) (suc (ones f)) (hid-even f))
 sign-even f false = refl
 
 pub pattern-digit : {f : Format} {x : Float} → Finite f x → toBits f x % 2 ≡ lastDigit f (magnitude f x)
@@ -43,7 +44,8 @@ pattern-digit {f} {x} h =
     let n = magnitude f x in
     let k = size n - prec f in
     ap (λ (b : ℕ). b % 2) (bits-are f x (h .finite))
-    ∙ even-sum (cond (negative x) (top f) 0) (k * hid f) (n / 2 ^ k) (sign-even f (negative x)) (even-times (hid f) k (hid-even f))
+    ∙ even-sum (cond (negative x) (top f) 0) (k * hid f) (n / 2 ^ k) (sign-even f (negative x))
+    (even-times (hid f) k (hid-even f))
 
 -- ---- the digits of q * 2 ^ k
 
@@ -68,19 +70,26 @@ digits-less f q k few full =
     go : (k : ℕ) → (0 < k → 2 ^ (prec f - 1) ≤ q) → k ≤ size (q * 2 ^ k) - prec f
     go zero full = omega arith
     go (suc k) full =
-        let reached : 2 ^ (prec f - 1 + suc k) ≤ q * 2 ^ suc k = le-trans (le-of-eq (pow-add 2 (prec f - 1) (suc k))) (mul-le-mul-right (2 ^ suc k) (full (omega arith))) in
+        let reached : 2 ^ (prec f - 1 + suc k) ≤ q * 2 ^ suc k =
+        le-trans (le-of-eq (pow-add 2 (prec f - 1) (suc k))) (mul-le-mul-right (2 ^ suc k) (full (omega arith))) in
         omega (arith, more-digits (q * 2 ^ suc k) (prec f - 1 + suc k) reached, two f)
 
 -- q may be 2 ^ prec too, which has a digit more and ends with zeros
-pub digit-of : (f : Format) (q k : ℕ) → q ≤ 2 ^ prec f → (0 < k → 2 ^ (prec f - 1) ≤ q) → lastDigit f (q * 2 ^ k) ≡ q % 2
+pub digit-of : (f : Format) (q k : ℕ) → q ≤ 2 ^ prec f → (0 < k → 2 ^ (prec f - 1) ≤ q)
+    → lastDigit f (q * 2 ^ k) ≡ q % 2
 digit-of f q k most full = elim (eq-or-lt-of-le most) [
   | inl e ↦
       let half : 2 ^ prec f ≡ 2 ^ (prec f - 1) * 2 ^ 1 = pow-split (prec f) 1 (omega (arith, two f)) in
-      let halved : q * 2 ^ k ≡ 2 ^ (prec f - 1) * 2 ^ (1 + k) = ap (λ (n : ℕ). n * 2 ^ k) (e ∙ half) ∙ mul-assoc (2 ^ (prec f - 1)) (2 ^ 1) (2 ^ k) ∙ ap (λ (n : ℕ). 2 ^ (prec f - 1) * n) (sym (pow-add 2 1 k)) in
-      ap (lastDigit f) halved ∙ digits-less f (2 ^ (prec f - 1)) (1 + k) (pow-lt (omega (arith, two f))) (λ h. omega arith) ∙ hid-even f ∙ omega arith
+      let halved : q * 2 ^ k ≡ 2 ^ (prec f - 1) * 2 ^ (1 + k) =
+      ap (λ (n : ℕ). n * 2 ^ k) (e ∙ half) ∙ mul-assoc (2 ^ (prec f - 1)) (2 ^ 1) (2 ^ k)
+      ∙ ap (λ (n : ℕ). 2 ^ (prec f - 1) * n) (sym (pow-add 2 1 k)) in
+      ap (lastDigit f) halved ∙ digits-less f (2 ^ (prec f - 1)) (1 + k) (pow-lt (omega (arith, two f)))
+      (λ h. omega arith) ∙ hid-even f ∙ omega arith
   | inr l ↦ digits-less f q k l full
 ]
 
--- so the bit pattern is even where the last digit is: that of a size written with all the digits of the format, or with no shift
-pub pattern-of-digits : {f : Format} {x : Float} (q k : ℕ) → Finite f x → magnitude f x ≡ q * 2 ^ k → q ≤ 2 ^ prec f → (0 < k → 2 ^ (prec f - 1) ≤ q) → toBits f x % 2 ≡ q % 2
+-- so the bit pattern is even where the last digit is: that of a size written with all the digits of the format, or with
+-- no shift
+pub pattern-of-digits : {f : Format} {x : Float} (q k : ℕ) → Finite f x → magnitude f x ≡ q * 2 ^ k → q ≤ 2 ^ prec f
+    → (0 < k → 2 ^ (prec f - 1) ≤ q) → toBits f x % 2 ≡ q % 2
 pattern-of-digits {f} q k h is most full = pattern-digit h ∙ ap (lastDigit f) is ∙ digit-of f q k most full

@@ -1,5 +1,6 @@
--- Taking 1 from a number is exact from 1 up to 2 ^ prec, up to which a format counts the whole numbers without a gap; and so the number less that difference
--- is 1 again, by bits. Under 2 ^ prec the number is a multiple of its last digit, which divides 1, or it is a whole number. In either format. Assumes nothing.
+-- Taking 1 from a number is exact from 1 up to 2 ^ prec, up to which a format counts the whole numbers without a gap;
+-- and so the number less that difference is 1 again, by bits. Under 2 ^ prec the number is a multiple of its last
+-- digit, which divides 1, or it is a whole number. In either format. Assumes nothing.
 use mathlib.Core.Path.{_≡_, refl, sym, ap, _∙_, subst}
 use mathlib.Core.Bool.{false}
 use Prim.Native.Nat.{ℕ, _+_, _-_, _*_, _^_, _≤_, _<_}
@@ -17,7 +18,8 @@ use Rattle.binary32.proofs.Magnitude.{Finite, finite-number, finite-und
 use Rattle.binary32.proofs.Comparison.{le-units}
 use Rattle.binary32.proofs.RoundedSize.{Short, short, over-positive, under-positive}
 use Rattle.binary32.proofs.Positive.{positive}
-use Rattle.binary32.proofs.Rounded.{Rounded, Exactly, exactly, times-difference, by-difference, own-rounding, same-rounded}
+use Rattle.binary32.proofs.Rounded.{Rounded, Exactly, exactly, times-difference}
+use Rattle.binary32.proofs.Rounded.{by-difference, own-rounding, same-rounded}
 use Rattle.binary32.proofs.Operations.{sub-rounded}
 use Rattle.binary32.proofs.Products.{unit, unit-finite, over-unit, under-unit}
 use Rattle.binary32.proofs.Range.{between-finite}
@@ -37,8 +39,10 @@ fine f m k h few = record {
 whole : (f : Format) (m k : ℕ) → low f ≤ k → m * 2 ^ k ≤ 2 ^ prec f * 2 ^ low f → Short f (m * 2 ^ k - 2 ^ low f)
 whole f m k h most =
     let n = m * 2 ^ (k - low f) in
-    let is : m * 2 ^ k ≡ n * 2 ^ low f = ap (λ (a : ℕ). m * a) (pow-split k (low f) h) ∙ sym (mul-assoc m (2 ^ (k - low f)) (2 ^ low f)) in
-    let few : n ≤ 2 ^ prec f = le-of-mul-le-mul-right (subst (λ (a : ℕ). a ≤ 2 ^ prec f * 2 ^ low f) is most) (pow-pos (low f)) in
+    let is : m * 2 ^ k ≡ n * 2 ^ low f =
+    ap (λ (a : ℕ). m * a) (pow-split k (low f) h) ∙ sym (mul-assoc m (2 ^ (k - low f)) (2 ^ low f)) in
+    let few : n ≤ 2 ^ prec f =
+    le-of-mul-le-mul-right (subst (λ (a : ℕ). a ≤ 2 ^ prec f * 2 ^ low f) is most) (pow-pos (low f)) in
     record {
       digits = n - 1;
       shift = low f;
@@ -51,7 +55,8 @@ less-one-short {f} {n} s h = rw (s .exact) (go (decLe (s .shift) (low f)))
   where
     go : Dec (s .shift ≤ low f) → Short f (s .digits * 2 ^ s .shift - 2 ^ low f)
     go (yes k) = fine f (s .digits) (s .shift) k (s .few)
-    go (no k) = whole f (s .digits) (s .shift) (omega arith) (subst (λ (a : ℕ). a ≤ 2 ^ prec f * 2 ^ low f) (s .exact) h)
+    go (no k) =
+        whole f (s .digits) (s .shift) (omega arith) (subst (λ (a : ℕ). a ≤ 2 ^ prec f * 2 ^ low f) (s .exact) h)
 
 -- ---- the end, 2 ^ prec
 
@@ -95,7 +100,8 @@ module _ (f : Format) {x : Float} (held : T (fits f x)) (b : Between unit (endOf
       let size = over-positive f x plus in
       let few : over f x ≤ 2 ^ prec f * 2 ^ low f = omega (arith, to, nothing-below, over-end f, under-end f) in
       let less : over f x - over f unit < overflow f = omega (arith, size, finite-under number) in
-      exactly (by-difference (sub-rounded number (unit-finite f)) (over f x - over f unit) 0 (omega (arith, from, nothing-below, under-unit f)))
+      exactly (by-difference (sub-rounded number (unit-finite f)) (over f x - over f unit) 0
+      (omega (arith, from, nothing-below, under-unit f)))
       (rw over-unit (less-one-short (rw size (short number)) few))
       less
 
@@ -106,7 +112,8 @@ module _ (f : Format) {x : Float} (held : T (fits f x)) (b : Between unit (endOf
       let d = less-one in
       let z = sub f x (sub f x unit) in
       let r : Rounded f z (over f unit) (under f unit) 1 =
-      by-difference (sub-rounded number (d .finite)) (over f unit) (under f unit) (omega (arith, from, nothing-below, under-unit f)) in
+      by-difference (sub-rounded number (d .finite)) (over f unit) (under f unit)
+      (omega (arith, from, nothing-below, under-unit f)) in
       let o = own-rounding (unit-finite f) in
       let some : 0 < over f z = omega (arith, r .above ∙ sym (o .above), over-unit f, pow-pos (low f)) in
       same-rounded r o (positive (r .number) some .plus)

@@ -1,5 +1,7 @@
--- From the general to the particular: sizes and their order; rounding as the kit does it (`RoundedSize`, `Rounded`) and the operations as roundings; then that this is what the
--- standard has delivered (`Values` to `Exact`) and how far it lies from the exact result (`HalfUnit`, `Near`); decimals, products, ranges and zeros; and last the rows of the standard for each operation, which leave one result.
+-- From the general to the particular: sizes and their order; rounding as the kit does it (`RoundedSize`, `Rounded`) and
+-- the operations as roundings; then that this is what the standard has delivered (`Values` to `Exact`) and how far it
+-- lies from the exact result (`HalfUnit`, `Near`); decimals, products, ranges and zeros; and last the rows of the
+-- standard for each operation, which leave one result.
 pub mod Tests
 pub mod Magnitude
 pub mod Order
@@ -27,5 +29,5 @@ pub mod Overflow
 pub mod NearExamples
 pub mod LessOne
 pub mod Zero
-pub mod Rows
+pub mod OperationsMet
 pub mod OneResult

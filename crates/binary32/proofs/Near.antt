@@ -1,10 +1,12 @@
--- How far a rounded result lies from the exact one, as a proof about a program uses it: in natural numbers, with the size of the exact result bounded and no case for
--- small numbers. `Near f z p n c e` says that z is finite and within e units of (p - n) / c. In either format. Assumes nothing.
+-- How far a rounded result lies from the exact one, as a proof about a program uses it: in natural numbers, with the
+-- size of the exact result bounded and no case for small numbers. `Near f z p n c e` says that z is finite and within e
+-- units of (p - n) / c. In either format. Assumes nothing.
 use mathlib.Core.Path.{_≡_, ap, ap₂, _∙_, subst₂}
 use mathlib.Core.Bool.{cond}
 use Prim.Native.Nat.{ℕ, zero, suc, _+_, _-_, _*_, _^_, _≤_, _<_}
 use native.Mathlib.Nat.{mul-assoc, mul-right-comm, zero-mul, mul-zero, suc-mul, add-mul, pow-suc}
-use native.Mathlib.Nat.{mul-le-mul-right, le-of-mul-le-mul-left, le-of-mul-le-mul-right, mul-lt-mul-of-pos-right, le-trans, le-of-eq, lt-of-le-of-lt}
+use native.Mathlib.Nat.{mul-le-mul-right, le-of-mul-le-mul-left, le-of-mul-le-mul-right}
+use native.Mathlib.Nat.{mul-lt-mul-of-pos-right, le-trans, le-of-eq, lt-of-le-of-lt}
 use native.Mathlib.Decide.{decLe}
 use native.Mathlib.Omega.{arith}
 use lib.Pow.{pow-pos}
@@ -16,7 +18,8 @@ use Rattle.binary32.specs.HalfUnit.{leastNormal, WithinHalfUnit}
 use Rattle.binary32.proofs.Magnitude.{Finite, is-finite}
 use Rattle.binary32.proofs.RoundedSize.{roundedTo, rounded-nothing}
 use Rattle.binary32.proofs.Rounded.{Rounded, times-difference}
-use Rattle.binary32.proofs.Integers.{Difference, difference, whole-difference, sum-of, negated-of, times-of, size-of}
+use Rattle.binary32.proofs.Integers.{Difference, difference, whole-difference}
+use Rattle.binary32.proofs.Integers.{sum-of, negated-of, times-of, size-of}
 use Rattle.binary32.proofs.NearestSize.{gap}
 use Rattle.binary32.proofs.Operations.{add-rounded, sub-rounded, mul-rounded, div-rounded}
 use Rattle.binary32.proofs.Delivered.{rounds-to}
@@ -28,7 +31,8 @@ use Rattle.binary32.proofs.HalfUnit.{half-unit, distance-most}
 unfoldable pub apart : Format → Float → ℕ → ℕ → ℕ → ℕ
 apart f z p n c = gap (p + under f z * c) (n + over f z * c)
 
-pub distance-apart : {w : ℤ} {p n : ℕ} (f : Format) (z : Float) (c : ℕ) → Difference w p n → distance f w c z ≡ apart f z p n c
+pub distance-apart : {w : ℤ} {p n : ℕ} (f : Format) (z : Float) (c : ℕ) → Difference w p n
+    → distance f w c z ≡ apart f z p n c
 unfolding distance apart
 distance-apart f z c d = size-of (sum-of d (negated-of (times-of (whole-difference f z) c)))
 
@@ -42,7 +46,8 @@ pub record Near (f : Format) (z : Float) (p n c e : ℕ) : Type 0 where
 pub record Error (f : Format) (z : Float) (p n c : ℕ) : Type 0 where
   -- an exact result under the bound is rounded to a finite number
   pub finite : {b : ℕ} → b < bound f → gap p n ≤ b * c → Finite f z
-  -- a finite z lies within half of 2 ^ k units of an exact result of at most 2 ^ (prec + k) units: sharp at a power of two
+  -- a finite z lies within half of 2 ^ k units of an exact result of at most 2 ^ (prec + k) units: sharp at a power of
+  -- two
   pub half : Finite f z → (k : ℕ) → gap p n ≤ 2 ^ (prec f + k) * c → 2 * apart f z p n c ≤ 2 ^ k * c
   -- within e units of one of at most 2 ^ prec * e units, whatever e is
   pub near : Finite f z → (e : ℕ) → gap p n ≤ 2 ^ prec f * e * c → Near f z p n c e
@@ -96,7 +101,8 @@ module _ {f : Format} {z : Float} {p n c : ℕ} (r : Rounded f z p n c) (C : 0 <
       where
         go : Dec (leastNormal f * c ≤ gap p n) → apart f z p n c ≤ e * c
         go (yes l) =
-            le-of-mul-le-mul-left (le-trans (half-normal l) (le-trans most (le-of-eq (mul-assoc (2 ^ prec f) e c)))) (pow-pos (prec f))
+            le-of-mul-le-mul-left (le-trans (half-normal l) (le-trans most (le-of-eq (mul-assoc (2 ^ prec f) e c))))
+            (pow-pos (prec f))
         go (no l) = small-within e most (half-subnormal (omega arith))
 
   pub error : Error f z p n c
@@ -111,13 +117,18 @@ module _ {f : Format} {z : Float} {p n c : ℕ} (error : Error f z p n c) where
   -- where e is a power of two, the exact result may be twice as large
   pub near-power : Finite f z → (k : ℕ) → gap p n ≤ 2 ^ (prec f + suc k) * c → Near f z p n c (2 ^ k)
   near-power h k most =
-      record { finite = h; within = omega (arith, error .half h (suc k) most, ap (λ (a : ℕ). a * c) (pow-suc 2 k), mul-right-comm (2 ^ k) 2 c) }
+      record {
+        finite = h;
+        within =
+            omega (arith, error .half h (suc k) most, ap (λ (a : ℕ). a * c) (pow-suc 2 k), mul-right-comm (2 ^ k) 2 c);
+      }
 
   -- most programs know of the size that it is under the bound, and so that z is finite
   pub near-under : (e : ℕ) → 2 ^ prec f * e < bound f → gap p n ≤ 2 ^ prec f * e * c → Near f z p n c e
   near-under e room most = error .near (error .finite room most) e most
 
-  pub power-under : (k : ℕ) → 2 ^ (prec f + suc k) < bound f → gap p n ≤ 2 ^ (prec f + suc k) * c → Near f z p n c (2 ^ k)
+  pub power-under : (k : ℕ) → 2 ^ (prec f + suc k) < bound f → gap p n ≤ 2 ^ (prec f + suc k) * c
+      → Near f z p n c (2 ^ k)
   power-under k room most = near-power (error .finite room most) k most
 
 -- ---- the four operations
@@ -129,14 +140,17 @@ module _ {f : Format} {x y : Float} (hx : Finite f x) (hy : Finite f y) where
   pub sub-error : Error f (sub f x y) (over f x + under f y) (under f x + over f y) 1
   sub-error = error (sub-rounded hx hy) (pow-pos 0)
 
-  pub mul-error : Error f (mul f x y) (over f x * over f y + under f x * under f y) (over f x * under f y + under f x * over f y) (2 ^ low f)
+  pub mul-error : Error f (mul f x y) (over f x * over f y + under f x * under f y)
+      (over f x * under f y + under f x * over f y) (2 ^ low f)
   mul-error = error (mul-rounded hx hy) (pow-pos (low f))
 
   pub div-error : 0 < magnitude f y
-      → Error f (div f x y) (cond (negative y) (under f x) (over f x) * 2 ^ low f) (cond (negative y) (over f x) (under f x) * 2 ^ low f) (magnitude f y)
+      → Error f (div f x y) (cond (negative y) (under f x) (over f x) * 2 ^ low f)
+      (cond (negative y) (over f x) (under f x) * 2 ^ low f) (magnitude f y)
   div-error some = error (div-rounded hx hy some) some
 
--- ---- one rounding after another: what is within e units of one exact result, which is within g units of another, is within e + g units of that
+-- ---- one rounding after another: what is within e units of one exact result, which is within g units of another, is
+-- within e + g units of that
 
 pub gap-times : (a b c : ℕ) → gap a b * c ≡ gap (a * c) (b * c)
 gap-times a b c = add-mul (a - b) (b - a) c ∙ ap₂ _+_ (times-difference a b c) (times-difference b a c)
@@ -151,7 +165,8 @@ near-from {f} {z} {p} {n} {c} {e} near C q m d g between =
     let U = under f z in
     let O = over f z in
     let first : gap (p * d + U * d * c) (n * d + O * d * c) ≤ e * d * c =
-    simp (gap-times, add-mul, mul-right-comm U c d, mul-right-comm O c d, mul-right-comm e c d) at (mul-le-mul-right d (near .within)) in
+    simp (gap-times, add-mul, mul-right-comm U c d, mul-right-comm O c d, mul-right-comm e c d) at (mul-le-mul-right d
+    (near .within)) in
     let both : gap (q * c + U * d * c) (m * c + O * d * c) ≤ e * d * c + g * d * c =
     detour (p * d) (n * d) (q * c) (m * c) (U * d * c) (O * d * c) (e * d * c) (g * d * c) first between in
     record { finite = near .finite; within = le-of-mul-le-mul-right (simp (gap-times, add-mul) both) C }

@@ -1,10 +1,14 @@
--- The size that is nearest to a / c units, whatever its exponent: the kit's rounding keeps prec digits, w or the next number up, of a / c = w * 2 ^ k and a rest. No
--- size of so few digits lies between w * 2 ^ k and (w + 1) * 2 ^ k, so none is nearer than the nearer of these two; and where both are equally
--- near, the one that is taken ends with an even digit and the other with an odd one. In either format. Assumes nothing.
+-- The size that is nearest to a / c units, whatever its exponent: the kit's rounding keeps prec digits, w or the next
+-- number up, of a / c = w * 2 ^ k and a rest. No size of so few digits lies between w * 2 ^ k and (w + 1) * 2 ^ k, so
+-- none is nearer than the nearer of these two; and where both are equally near, the one that is taken ends with an even
+-- digit and the other with an odd one. In either format. Assumes nothing.
 use mathlib.Core.Path.{_≡_, refl, sym, ap, _∙_, subst, subst₂}
 use mathlib.Core.Logic.{_⊎_, inl, inr, ⊎-elim}
-use Prim.Native.Nat.{ℕ, zero, suc, _+_, _-_, _*_, _/_, _%_, _^_, _≤_, _<_, compare, Ordering, Ordering·lt, Ordering·eq, Ordering·gt}
-use native.Mathlib.Nat.{add-zero, add-mul, mul-assoc, mul-comm, one-mul, suc-mul, lt-of-lt-of-le, mul-pos, mul-le-mul-right, eq-of-mul-eq-mul-right, eq-or-lt-of-le, le-trans, le-of-eq, div-div-eq-div-mul, div-add-mod', mod-lt}
+use Prim.Native.Nat.{ℕ, zero, suc, _+_, _-_, _*_, _/_, _%_, _^_, _≤_, _<_}
+use Prim.Native.Nat.{compare, Ordering, Ordering·lt, Ordering·eq, Ordering·gt}
+use native.Mathlib.Nat.{add-zero, add-mul, mul-assoc, mul-comm, one-mul, suc-mul, lt-of-lt-of-le}
+use native.Mathlib.Nat.{mul-pos, mul-le-mul-right, eq-of-mul-eq-mul-right, eq-or-lt-of-le}
+use native.Mathlib.Nat.{le-trans, le-of-eq, div-div-eq-div-mul, div-add-mod', mod-lt}
 use native.Mathlib.Decide.{decLe}
 use native.Mathlib.Omega.{arith}
 use borrow.Author.Tests.{leb-true, leb-false, eqb-true, eqb-false}
@@ -26,7 +30,8 @@ pub record NearestSize (f : Format) (a c n : ℕ) : Type 0 where
   pub short : Short f n
   pub nearest : (m : ℕ) → Short f m → gap a (n * c) ≤ gap a (m * c)
   -- of two that are equally near, n is the one that is even
-  pub tie : (m : ℕ) → Short f m → gap a (m * c) ≡ gap a (n * c) → (m ≡ n → ⊥) → (lastDigit f n ≡ 0) × (lastDigit f m ≡ 1)
+  pub tie : (m : ℕ) → Short f m → gap a (m * c) ≡ gap a (n * c) → (m ≡ n → ⊥)
+      → (lastDigit f n ≡ 0) × (lastDigit f m ≡ 1)
 
 -- ---- no size lies between two neighbours
 
@@ -38,7 +43,9 @@ module _ (f : Format) (w k : ℕ) (full : 0 < k → 2 ^ (prec f - 1) ≤ w) wher
       -- m is a multiple of 2 ^ k
       go (yes h) =
           let e = s .digits * 2 ^ (s .shift - k) in
-          let is : m ≡ e * 2 ^ k = s .exact ∙ ap (λ (n : ℕ). s .digits * n) (pow-split (s .shift) k h) ∙ sym (mul-assoc (s .digits) (2 ^ (s .shift - k)) (2 ^ k)) in
+          let is : m ≡ e * 2 ^ k =
+          s .exact ∙ ap (λ (n : ℕ). s .digits * n) (pow-split (s .shift) k h)
+          ∙ sym (mul-assoc (s .digits) (2 ^ (s .shift - k)) (2 ^ k)) in
           pick e is (decLe e w)
         where
           pick : (e : ℕ) → m ≡ e * 2 ^ k → Dec (e ≤ w) → (m ≤ w * 2 ^ k) ⊎ (suc w * 2 ^ k ≤ m)
@@ -129,7 +136,8 @@ module _ (f : Format) (a c w k r : ℕ) (C : 0 < c) (full : 0 < k → 2 ^ (prec 
 
 -- ---- so the kit's rounding, before it asks for overflow, gives the nearest size
 
--- The leading digits of a / c: `lead` has prec digits of its whole part, or all of them where there are no more; `shift` digits come after these; and `rest` is left.
+-- The leading digits of a / c: `lead` has prec digits of its whole part, or all of them where there are no more;
+-- `shift` digits come after these; and `rest` is left.
 pub record Leading (f : Format) (a c : ℕ) : Type 0 where
   pub lead : ℕ
   pub shift : ℕ
@@ -154,9 +162,12 @@ leading f a c C =
       -- q has p + k digits, or at most p where k is 0
       few = shr-lt p k (lt-of-lt-of-le (size-lt q) (pow-mono (omega arith)));
       full = λ some.
-          let reached : 2 ^ (p - 1) * 2 ^ k ≤ q = rw (← pow-add 2 (p - 1) k) (size-reaches q (p - 1 + k) (omega (arith, two f))) in
+          let reached : 2 ^ (p - 1) * 2 ^ k ≤ q =
+          rw (← pow-add 2 (p - 1) k) (size-reaches q (p - 1 + k) (omega (arith, two f))) in
           subst (λ (n : ℕ). n ≤ w) (shl-shr (2 ^ (p - 1)) k) (shr-mono k reached);
-      parts = sym (div-add-mod' a u) ∙ ap (λ (n : ℕ). n + a % u) (ap (λ (n : ℕ). n * u) whole ∙ sym (mul-assoc w (2 ^ k) c));
+      parts =
+          sym (div-add-mod' a u)
+          ∙ ap (λ (n : ℕ). n + a % u) (ap (λ (n : ℕ). n * u) whole ∙ sym (mul-assoc w (2 ^ k) c));
       less = mod-lt a (mul-pos (pow-pos k) C);
     }
 
@@ -169,5 +180,6 @@ unbounded-nearest f a c C =
     let k = drop (prec f) a c in
     let u = 2 ^ k * c in
     let l = leading f a c C in
-    subst₂ (λ (n v : ℕ). NearestSize f a c (nearest n (compare (a % v * 2) v) * 2 ^ k)) (div-div-eq-div-mul a c (2 ^ k)) (mul-comm (2 ^ k) c)
+    subst₂ (λ (n v : ℕ). NearestSize f a c (nearest n (compare (a % v * 2) v) * 2 ^ k))
+    (div-div-eq-div-mul a c (2 ^ k)) (mul-comm (2 ^ k) c)
     (nearest-taken f a c (l .lead) k (l .rest) C (l .full) (l .few) (l .parts) (l .less) (compare (a % u * 2) u) refl)

@@ -1,9 +1,11 @@
--- The comparisons of IEEE 754-2019 (5.6.1, 5.11) on two numbers that a format holds are those of whole numbers: x < y says that over x - under x
--- is less than over y - under y, which is written without a difference. An infinity counts as the overflow bound. Assumes nothing.
+-- The comparisons of IEEE 754-2019 (5.6.1, 5.11) on two numbers that a format holds are those of whole numbers: x < y
+-- says that over x - under x is less than over y - under y, which is written without a difference. An infinity counts
+-- as the overflow bound. Assumes nothing.
 use mathlib.Core.Path.{_≡_, refl, sym, ap, ap₂, _∙_, subst₂}
 use mathlib.Core.Logic.{inl, inr}
 use Prim.Native.Nat.{ℕ, suc, _+_, _*_, _^_, _≤_, _<_, zero-le}
-use native.Mathlib.Nat.{eq-or-lt-of-le, zero-mul, add-mul, mul-pos, add-zero, zero-add, add-comm, mul-comm, lt-of-mul-lt-mul-right, mul-lt-mul-of-pos-right, eq-of-mul-eq-mul-right}
+use native.Mathlib.Nat.{eq-or-lt-of-le, zero-mul, add-mul, mul-pos, add-zero, zero-add, add-comm, mul-comm}
+use native.Mathlib.Nat.{lt-of-mul-lt-mul-right, mul-lt-mul-of-pos-right, eq-of-mul-eq-mul-right}
 use native.Mathlib.Decide.{decLe}
 use native.Mathlib.Omega.{arith}
 use mathlib.Core.Bool.{Bool, true, false, not, cond, _&&_, _||_, Bool·beq}
@@ -35,7 +37,8 @@ module _ (a b x y c l : ℕ) (C : 0 < c) (L : 0 < l) (p : a * l ≡ x * c) (q : 
   less-back h = lt-of-mul-lt-mul-right l (subst₂ (λ (m n : ℕ). m < n) (sym p) (sym q) (mul-lt-mul-of-pos-right h C))
 
   ltb-same : ltb a b ≡ ltb x y
-  ltb-same = same-test (ltb a b) (ltb x y) (λ t. lt→ltb x y (less (ltb→lt a b t))) (λ t. lt→ltb a b (less-back (ltb→lt x y t)))
+  ltb-same =
+      same-test (ltb a b) (ltb x y) (λ t. lt→ltb x y (less (ltb→lt a b t))) (λ t. lt→ltb a b (less-back (ltb→lt x y t)))
 
   eqb-same : eqb a b ≡ eqb x y
   eqb-same =
@@ -63,10 +66,12 @@ alike a b x y c l C L p q =
     }
 
 -- what the operations take of two finite numbers are such multiples of their sizes
-pub sizes-alike : (f : Format) (s : Bool) (m : ℕ) (e : ℤ) (t : Bool) (n : ℕ) (d : ℤ) → T (fits f (fin s m e)) → T (fits f (fin t n d))
+pub sizes-alike : (f : Format) (s : Bool) (m : ℕ) (e : ℤ) (t : Bool) (n : ℕ) (d : ℤ) → T (fits f (fin s m e))
+    → T (fits f (fin t n d))
     → Alike (m * up e * down d) (n * up d * down e) (magnitude f (fin s m e)) (magnitude f (fin t n d))
 sizes-alike f s m e t n d hx hy =
-    alike (m * up e * down d) (n * up d * down e) (magnitude f (fin s m e)) (magnitude f (fin t n d)) (down e * down d) (2 ^ low f)
+    alike (m * up e * down d) (n * up d * down e) (magnitude f (fin s m e)) (magnitude f (fin t n d))
+    (down e * down d) (2 ^ low f)
     (mul-pos (down-pos e) (down-pos d)) (pow-pos (low f))
     (magnitude-scaled f s m e hx (down d))
     (magnitude-scaled f t n d hy (down e) ∙ ap (λ (c : ℕ). magnitude f (fin t n d) * c) (mul-comm (down d) (down e)))
@@ -82,7 +87,8 @@ level-alike s t h = ap₂ (λ (p q : Bool). p && (Bool·beq s t || q)) (h .equal
 
 -- ---- a signed comparison of sizes, without signs
 
-below-whole : (s : Bool) (x : ℕ) (t : Bool) (y : ℕ) → below s x t y ≡ ltb (cond s 0 x + cond t y 0) (cond t 0 y + cond s x 0)
+below-whole : (s : Bool) (x : ℕ) (t : Bool) (y : ℕ)
+    → below s x t y ≡ ltb (cond s 0 x + cond t y 0) (cond t 0 y + cond s x 0)
 below-whole false x false y = simp add-zero
 below-whole false x true y = sym (le-ltb (x + y) 0 zero-le)
 below-whole true x false y = ap (ltb 0) (add-comm x y)
@@ -98,11 +104,14 @@ both-nothing x y a b f g =
     (λ t. eq→eqb (f (eqb→eq x y (and-l (eqb x y) (eqb x 0) t)) (eqb→eq x 0 (and-r (eqb x y) (eqb x 0) t))))
     (λ t. and-i (eqb x y) (eqb x 0) (eq→eqb (g (eqb→eq a b t) .0)) (eq→eqb (g (eqb→eq a b t) .1)))
 
-level-whole : (s : Bool) (x : ℕ) (t : Bool) (y : ℕ) → level s x t y ≡ eqb (cond s 0 x + cond t y 0) (cond t 0 y + cond s x 0)
+level-whole : (s : Bool) (x : ℕ) (t : Bool) (y : ℕ)
+    → level s x t y ≡ eqb (cond s 0 x + cond t y 0) (cond t 0 y + cond s x 0)
 level-whole false x false y = simp (alone, add-zero)
 level-whole false x true y = both-nothing x y (x + y) 0 (λ p q. omega arith) (λ h. omega arith)
 level-whole true x false y = both-nothing x y 0 (y + x) (λ p q. omega arith) (λ h. omega arith)
-level-whole true x true y = simp (alone, zero-add) (same-test (eqb x y) (eqb y x) (λ t. eq→eqb (sym (eqb→eq x y t))) (λ t. eq→eqb (sym (eqb→eq y x t))))
+level-whole true x true y =
+    simp (alone, zero-add)
+    (same-test (eqb x y) (eqb y x) (λ t. eq→eqb (sym (eqb→eq x y t))) (λ t. eq→eqb (sym (eqb→eq y x t))))
 
 -- ---- the comparisons of two numbers, by sign and size
 
@@ -125,7 +134,8 @@ bound-both false true o h = refl
 bound-both true false o h = sym (lt-ltb 0 (o + o) (omega arith))
 bound-both true true o h = sym (le-ltb o o (omega arith))
 
-lt-sizes : {f : Format} {x y : Float} → Number f x → Number f y → lt x y ≡ below (negative x) (magnitude f x) (negative y) (magnitude f y)
+lt-sizes : {f : Format} {x y : Float} → Number f x → Number f y
+    → lt x y ≡ below (negative x) (magnitude f x) (negative y) (magnitude f y)
 unfolding lt negative magnitude
 lt-sizes {f} =
     by-number₂ (λ x y. lt x y ≡ below (negative x) (magnitude f x) (negative y) (magnitude f y))
@@ -147,7 +157,8 @@ apart-second s t x o h = simp (ne-eqb x o (λ e. omega arith))
 bound-level : (s t : Bool) (o : ℕ) → 0 < o → Bool·beq s t ≡ level s o t o
 bound-level s t o h = simp (eq-eqb o o refl, ne-eqb o 0 (λ e. omega arith)) (sym (or-false (Bool·beq s t)))
 
-eq-sizes : {f : Format} {x y : Float} → Number f x → Number f y → eq x y ≡ level (negative x) (magnitude f x) (negative y) (magnitude f y)
+eq-sizes : {f : Format} {x y : Float} → Number f x → Number f y
+    → eq x y ≡ level (negative x) (magnitude f x) (negative y) (magnitude f y)
 unfolding eq negative magnitude
 eq-sizes {f} =
     by-number₂ (λ x y. eq x y ≡ level (negative x) (magnitude f x) (negative y) (magnitude f y))
@@ -168,17 +179,21 @@ less-or-equal a b = go (decLe a b)
     ]
     go (no h) = simp (le-ltb a b (omega arith), ne-eqb a b (λ e. omega arith), lt-leb a b (omega arith))
 
-pub lt-whole : {f : Format} {x y : Float} → Number f x → Number f y → lt x y ≡ ltb (over f x + under f y) (over f y + under f x)
+pub lt-whole : {f : Format} {x y : Float} → Number f x → Number f y
+    → lt x y ≡ ltb (over f x + under f y) (over f y + under f x)
 unfolding over under
 lt-whole {f} {x} {y} hx hy = lt-sizes hx hy ∙ below-whole (negative x) (magnitude f x) (negative y) (magnitude f y)
 
-pub eq-whole : {f : Format} {x y : Float} → Number f x → Number f y → eq x y ≡ eqb (over f x + under f y) (over f y + under f x)
+pub eq-whole : {f : Format} {x y : Float} → Number f x → Number f y
+    → eq x y ≡ eqb (over f x + under f y) (over f y + under f x)
 unfolding over under
 eq-whole {f} {x} {y} hx hy = eq-sizes hx hy ∙ level-whole (negative x) (magnitude f x) (negative y) (magnitude f y)
 
-pub le-whole : {f : Format} {x y : Float} → Number f x → Number f y → le x y ≡ leb (over f x + under f y) (over f y + under f x)
+pub le-whole : {f : Format} {x y : Float} → Number f x → Number f y
+    → le x y ≡ leb (over f x + under f y) (over f y + under f x)
 unfolding le
-le-whole {f} {x} {y} hx hy = ap₂ _||_ (lt-whole hx hy) (eq-whole hx hy) ∙ less-or-equal (over f x + under f y) (over f y + under f x)
+le-whole {f} {x} {y} hx hy =
+    ap₂ _||_ (lt-whole hx hy) (eq-whole hx hy) ∙ less-or-equal (over f x + under f y) (over f y + under f x)
 
 -- ---- minus turns a comparison round: x < -y exactly where y < -x
 

@@ -1,5 +1,5 @@
--- Where nothing overflows: a finite number times a factor in 0..1 is finite, in either format; and so is, at binary32, a finite number plus one in 0..1, since
--- the largest f32 and 1 add to the largest f32. Assumes nothing.
+-- Where nothing overflows: a finite number times a factor in 0..1 is finite, in either format; and so is, at binary32,
+-- a finite number plus one in 0..1, since the largest f32 and 1 add to the largest f32. Assumes nothing.
 use mathlib.Core.Path.{_≡_, refl, subst}
 use Prim.Native.Nat.{_+_, _≤_}
 use native.Mathlib.Omega.{arith}
@@ -51,16 +51,21 @@ maximum-and-one = refl
 pub sum-finite : {b x : Float} → Factor binary32 b → Finite binary32 x → Finite binary32 (b +f x)
 sum-finite {b} {x} k hx =
     let r = add-rounded (k .number) hx in
-    let top : Rounded binary32 maximum (over binary32 maximum + over binary32 unit) (under binary32 maximum + under binary32 unit) 1 =
-    subst (λ (z : Float). Rounded binary32 z (over binary32 maximum + over binary32 unit) (under binary32 maximum + under binary32 unit) 1)
+    let top : Rounded binary32 maximum (over binary32 maximum + over binary32 unit)
+    (under binary32 maximum + under binary32 unit) 1 =
+    subst (λ (z : Float). Rounded binary32 z (over binary32 maximum + over binary32 unit)
+    (under binary32 maximum + under binary32 unit) 1)
     maximum-and-one (add-rounded maximum-finite (unit-finite binary32)) in
     let at-most-one : over binary32 b ≤ over binary32 unit = rw (over-unit binary32) (k .to) in
     let most : magnitude binary32 x ≤ over binary32 maximum = rw maximum-over (at-most-largest hx) in
     record {
       fits = r .number .fits;
       finite = between-finite (hx .finite) (maximum-finite .finite) (record {
-        from = units-le (finite-number hx) (r .number) (rounded-order (own-rounding hx) r (pow-pos 0) (pow-pos 0) (omega (arith, k .from)));
+        from =
+            units-le (finite-number hx) (r .number)
+            (rounded-order (own-rounding hx) r (pow-pos 0) (pow-pos 0) (omega (arith, k .from)));
         to = units-le (r .number) (finite-number maximum-finite)
-            (rounded-order r top (pow-pos 0) (pow-pos 0) (omega (arith, maximum-under, under-unit binary32, over-and-under binary32 x)));
+            (rounded-order r top (pow-pos 0) (pow-pos 0)
+            (omega (arith, maximum-under, under-unit binary32, over-and-under binary32 x)));
       });
     }

@@ -1,4 +1,4 @@
--- A number above zero: what counts something above zero has no minus sign. In either format. Assumes nothing.
+-- A number over zero: what counts something over zero has no minus sign. In either format. Assumes nothing.
 use mathlib.Core.Path.{_≡_, refl}
 use mathlib.Core.Bool.{Bool, true, false}
 use Prim.Native.Nat.{_<_}

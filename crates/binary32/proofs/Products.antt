@@ -1,8 +1,9 @@
--- A product by 1 is the value itself, by bits, and one by -1 has its size. A product by a factor in 0..1 is no larger in size, and keeps the order.
--- Assumes nothing.
+-- A product by 1 is the value itself, by bits, and one by -1 has its size. A product by a factor in 0..1 is no larger
+-- in size, and keeps the order. Assumes nothing.
 use mathlib.Core.Path.{_≡_, refl, sym, _∙_, subst₂}
 use Prim.Native.Nat.{ℕ, _+_, _-_, _*_, _^_, _≤_}
-use native.Mathlib.Nat.{mul-sub, mul-comm, mul-one, one-mul, zero-mul, mul-add, add-mul, div-one, mul-le-mul-right, mul-le-mul-left}
+use native.Mathlib.Nat.{mul-sub, mul-comm, mul-one, one-mul, zero-mul, mul-add}
+use native.Mathlib.Nat.{add-mul, div-one, mul-le-mul-right, mul-le-mul-left}
 use native.Mathlib.Omega.{arith}
 use mathlib.Core.Bool.{Bool, true, false, not}
 use lib.Dec.{T}
@@ -13,7 +14,8 @@ use Rattle.binary32.specs.Arithmetic.{1f}
 use Rattle.binary32.specs.Whole.{negative, magnitude, over, under}
 use Rattle.binary32.proofs.Magnitude.{Finite, by-finite₂, finite-under, under-finite}
 use Rattle.binary32.proofs.RoundedSize.{rounded-mono, round-negative, round-size}
-use Rattle.binary32.proofs.Rounded.{Rounded, by-difference, by-fraction, rounded-order, own-rounding, same-rounded}
+use Rattle.binary32.proofs.Rounded.{Rounded, by-difference, by-fraction}
+use Rattle.binary32.proofs.Rounded.{rounded-order, own-rounding, same-rounded}
 use Rattle.binary32.proofs.Operations.{neg-finite, mul-rounded}
 
 -- ---- one
@@ -41,7 +43,8 @@ under-unit f = refl
 
 -- ---- the product by one
 
-pub mul-negative : {f : Format} {x y : Float} → Finite f x → Finite f y → negative (mul f x y) ≡ unlike (negative x) (negative y)
+pub mul-negative : {f : Format} {x y : Float} → Finite f x → Finite f y
+    → negative (mul f x y) ≡ unlike (negative x) (negative y)
 unfolding mul negative
 mul-negative {f} =
     by-finite₂ (λ x y. negative (mul f x y) ≡ unlike (negative x) (negative y))
@@ -56,8 +59,10 @@ one-times-finite : {f : Format} {x : Float} → Finite f x → mul f unit x ≡ 
 one-times-finite {f} {x} h =
     let L = 2 ^ low f in
     let u = unit-finite f in
-    let r : Rounded f (mul f unit x) (L * over f x + 0 * under f x) (L * under f x + 0 * over f x) L = simp (over-unit, under-unit) at (mul-rounded u h) in
-    same-rounded (by-fraction r (over f x) (under f x) 1 (pow-pos (low f)) (pow-pos 0) (omega (arith, mul-comm L (over f x), mul-comm L (under f x))))
+    let r : Rounded f (mul f unit x) (L * over f x + 0 * under f x) (L * under f x + 0 * over f x) L =
+    simp (over-unit, under-unit) at (mul-rounded u h) in
+    same-rounded (by-fraction r (over f x) (under f x) 1 (pow-pos (low f)) (pow-pos 0)
+    (omega (arith, mul-comm L (over f x), mul-comm L (under f x))))
     (own-rounding h)
     (mul-negative u h ∙ unlike-unit (negative x))
 
@@ -86,13 +91,15 @@ mul-swapped f (inf s) (inf t) = rw (unlike-swapped s t)
 mul-swapped f (inf s) (fin t n d) = rw (unlike-swapped s t)
 mul-swapped f (fin s m e) nan = refl
 mul-swapped f (fin s m e) (inf t) = rw (unlike-swapped s t)
-mul-swapped f (fin s m e) (fin t n d) = rw (unlike-swapped s t, mul-comm (m * up e) (n * up d), mul-comm (down e) (down d))
+mul-swapped f (fin s m e) (fin t n d) =
+    rw (unlike-swapped s t, mul-comm (m * up e) (n * up d), mul-comm (down e) (down d))
 
 pub times-one : (f : Format) (x : Float) → T (fits f x) → mul f x unit ≡ x
 times-one f x h = mul-swapped f x unit ∙ one-times f x h
 
 -- a factor's sign does not change a product's size
-turned-size : {f : Format} {x y : Float} → Finite f x → Finite f y → magnitude f (mul f (neg x) y) ≡ magnitude f (mul f x y)
+turned-size : {f : Format} {x y : Float} → Finite f x → Finite f y
+    → magnitude f (mul f (neg x) y) ≡ magnitude f (mul f x y)
 unfolding mul neg
 turned-size {f} =
     by-finite₂ (λ x y. magnitude f (mul f (neg x) y) ≡ magnitude f (mul f x y))
@@ -118,30 +125,38 @@ pub record Factor (f : Format) (s : Float) : Type 0 where
   pub to : over f s ≤ 2 ^ low f
 
 -- the exact product, which is rounded
-factor-rounded : {f : Format} {s x : Float} → Factor f s → Finite f x → Rounded f (mul f s x) (over f s * over f x) (over f s * under f x) (2 ^ low f)
-factor-rounded {f} {s} {x} k h = by-difference (mul-rounded (k .number) h) (over f s * over f x) (over f s * under f x) (simp (k .from, zero-mul) (omega arith))
+factor-rounded : {f : Format} {s x : Float} → Factor f s → Finite f x
+    → Rounded f (mul f s x) (over f s * over f x) (over f s * under f x) (2 ^ low f)
+factor-rounded {f} {s} {x} k h =
+    by-difference (mul-rounded (k .number) h) (over f s * over f x) (over f s * under f x)
+    (simp (k .from, zero-mul) (omega arith))
 
 smaller-part : (s a b l : ℕ) → s ≤ l → (s * a - s * b) * 1 ≤ (a - b) * l
 smaller-part s a b l h = rw (mul-one, ← mul-sub, mul-comm s (a - b)) (mul-le-mul-left (a - b) h)
 
 larger-sum : (s l a b c d : ℕ) → a + b ≤ c + d → s * a * l + s * b * l ≤ s * c * l + s * d * l
-larger-sum s l a b c d h = rw (← add-mul (s * a) (s * b) l, ← add-mul (s * c) (s * d) l, ← mul-add s a b, ← mul-add s c d) (mul-le-mul-right l (mul-le-mul-left s h))
+larger-sum s l a b c d h =
+    rw (← add-mul (s * a) (s * b) l, ← add-mul (s * c) (s * d) l, ← mul-add s a b, ← mul-add s c d)
+    (mul-le-mul-right l (mul-le-mul-left s h))
 
 -- no larger in size, and of the same sign
 pub factor-over : {f : Format} {s x : Float} → Factor f s → Finite f x → over f (mul f s x) ≤ over f x
 factor-over {f} {s} {x} k h =
     subst₂ (λ (a b : ℕ). a ≤ b) (sym (factor-rounded k h .above)) (sym (own-rounding h .above))
-    (rounded-mono f (over f s * over f x - over f s * under f x) (2 ^ low f) (over f x - under f x) 1 (pow-pos (low f)) (pow-pos 0)
+    (rounded-mono f (over f s * over f x - over f s * under f x) (2 ^ low f) (over f x - under f x) 1
+    (pow-pos (low f)) (pow-pos 0)
     (smaller-part (over f s) (over f x) (under f x) (2 ^ low f) (k .to)))
 
 pub factor-under : {f : Format} {s x : Float} → Factor f s → Finite f x → under f (mul f s x) ≤ under f x
 factor-under {f} {s} {x} k h =
     subst₂ (λ (a b : ℕ). a ≤ b) (sym (factor-rounded k h .below)) (sym (own-rounding h .below))
-    (rounded-mono f (over f s * under f x - over f s * over f x) (2 ^ low f) (under f x - over f x) 1 (pow-pos (low f)) (pow-pos 0)
+    (rounded-mono f (over f s * under f x - over f s * over f x) (2 ^ low f) (under f x - over f x) 1
+    (pow-pos (low f)) (pow-pos 0)
     (smaller-part (over f s) (under f x) (over f x) (2 ^ low f) (k .to)))
 
 -- of two numbers the larger gets the product that is no smaller
-pub factor-order : {f : Format} {s x y : Float} → Factor f s → Finite f x → Finite f y → over f x + under f y ≤ over f y + under f x
+pub factor-order : {f : Format} {s x y : Float} → Factor f s → Finite f x → Finite f y
+    → over f x + under f y ≤ over f y + under f x
     → over f (mul f s x) + under f (mul f s y) ≤ over f (mul f s y) + under f (mul f s x)
 factor-order {f} {s} {x} {y} k hx hy h =
     rounded-order (factor-rounded k hx) (factor-rounded k hy) (pow-pos (low f)) (pow-pos (low f))

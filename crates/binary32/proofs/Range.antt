@@ -1,5 +1,6 @@
--- The laws of `specs/Range.antt`. What lies between two finite numbers is finite; at binary32, a number that lies in 0..1 is a factor by which a product
--- gets no larger; and that an exact sum lies in a range, said over natural numbers. Assumes nothing.
+-- The laws of `specs/Range.antt`. What lies between two finite numbers is finite; at binary32, a number that lies in
+-- 0..1 is a factor by which a product gets no larger; and that an exact sum lies in a range, said over natural numbers.
+-- Assumes nothing.
 use mathlib.Core.Path.{_≡_, refl, ap, _∙_}
 use mathlib.Core.Bool.{Bool, true, false, false≢true}
 use Prim.Native.Nat.{_+_, _^_, _≤_}
@@ -75,21 +76,31 @@ not-negative f s h = go (negative s) refl
 pub factor : {s : Float} → T (fits binary32 s) → Between 0f 1f s → Factor binary32 s
 factor {s} h b =
     let n : Number binary32 s = record { fits = h; number = le-number s 1f (b .to) } in
-    let low-end : over binary32 0f + under binary32 s ≤ over binary32 s + under binary32 0f = le-units zero-number n (b .from) in
-    let high-end : over binary32 s + under binary32 1f ≤ over binary32 1f + under binary32 s = le-units n one-number (b .to) in
+    let low-end : over binary32 0f + under binary32 s ≤ over binary32 s + under binary32 0f =
+    le-units zero-number n (b .from) in
+    let high-end : over binary32 s + under binary32 1f ≤ over binary32 1f + under binary32 s =
+    le-units n one-number (b .to) in
     let from : under binary32 s ≡ 0 = not-negative binary32 s (omega (arith, zero-over, zero-under)) in
     let to : over binary32 s ≤ over binary32 1f = omega arith in
-    let most : over binary32 s ≤ 2 ^ low binary32 = le-trans to (le-of-eq (ap (over binary32) one-is-unit ∙ over-unit binary32)) in
-    record { number = record { fits = h; finite = between-finite (zero-finite .finite) (one-finite .finite) b }; from = from; to = most }
+    let most : over binary32 s ≤ 2 ^ low binary32 =
+    le-trans to (le-of-eq (ap (over binary32) one-is-unit ∙ over-unit binary32)) in
+    record {
+      number = record { fits = h; finite = between-finite (zero-finite .finite) (one-finite .finite) b };
+      from = from;
+      to = most;
+    }
 
 -- ---- the exact sum of two numbers lies in a range
 
-sum-difference : (x y : Float) → Difference (exactSum x y) (over binary32 x + over binary32 y) (under binary32 x + under binary32 y)
+sum-difference : (x y : Float)
+    → Difference (exactSum x y) (over binary32 x + over binary32 y) (under binary32 x + under binary32 y)
 unfolding exactSum
 sum-difference x y = sum-of (whole-difference binary32 x) (whole-difference binary32 y)
 
-pub sum-at-least : {lo hi x y : Float} → SumWithin lo hi x y → over binary32 lo + (under binary32 x + under binary32 y) ≤ over binary32 x + over binary32 y + under binary32 lo
+pub sum-at-least : {lo hi x y : Float} → SumWithin lo hi x y
+    → over binary32 lo + (under binary32 x + under binary32 y) ≤ over binary32 x + over binary32 y + under binary32 lo
 sum-at-least {lo} {x} {y} w = order-of (whole-difference binary32 lo) (sum-difference x y) (w .from)
 
-pub sum-at-most : {lo hi x y : Float} → SumWithin lo hi x y → over binary32 x + over binary32 y + under binary32 hi ≤ over binary32 hi + (under binary32 x + under binary32 y)
+pub sum-at-most : {lo hi x y : Float} → SumWithin lo hi x y
+    → over binary32 x + over binary32 y + under binary32 hi ≤ over binary32 hi + (under binary32 x + under binary32 y)
 sum-at-most {hi} {x} {y} w = order-of (sum-difference x y) (whole-difference binary32 hi) (w .to)

@@ -1,5 +1,6 @@
--- Rounding over whole numbers, the size alone: `roundedTo f a c` is the size, in units, of what a / c units round to. It grows with the fraction,
--- nothing rounds to nothing, equal fractions round alike, and the size of a value of the format is its own rounding. Assumes nothing.
+-- Rounding over whole numbers, the size alone: `roundedTo f a c` is the size, in units, of what a / c units round to.
+-- It grows with the fraction, nothing rounds to nothing, equal fractions round alike, and the size of a value of the
+-- format is its own rounding. Assumes nothing.
 use mathlib.Core.Path.{_≡_, refl, sym, ap, _∙_, subst, subst₂}
 use Prim.Native.Nat.{ℕ, zero, suc, _+_, _*_, _/_, _^_, _≤_, _<_}
 use native.Mathlib.Nat.{mul-assoc, one-mul, zero-mul, mul-pos, mul-le-mul-right}
@@ -15,7 +16,8 @@ use lib.Ieee.Order.{drop, kept, round-mono}
 use lib.Ieee.Scale.{grid, overflow, round-same}
 use Rattle.binary32.specs.Whole.{negative, magnitude, over, under}
 use Rattle.binary32.proofs.Tests.{round-nothing}
-use Rattle.binary32.proofs.Magnitude.{Number, Finite, by-finite, held, multiple, magnitude-of, magnitude-shifted, finite-under}
+use Rattle.binary32.proofs.Magnitude.{Number, Finite, by-finite, held, multiple}
+use Rattle.binary32.proofs.Magnitude.{magnitude-of, magnitude-shifted, finite-under}
 use Rattle.binary32.proofs.Comparison.{le-units}
 
 -- ---- what `round` gives: a number with the sign that it was handed, of a size that does not turn on that sign
@@ -65,7 +67,7 @@ round-negative f s a c = round-signed f s a c .sign
 pub round-size : (f : Format) (s : Bool) (a c : ℕ) → magnitude f (round f s a c) ≡ magnitude f (round f false a c)
 round-size f s a c = round-signed f s a c .size ∙ sym (round-signed f false a c .size)
 
--- ---- what a number of either sign counts above and below zero
+-- ---- what a number of either sign counts over and under zero
 
 pub over-positive : (f : Format) (x : Float) → negative x ≡ false → over f x ≡ magnitude f x
 unfolding over
@@ -98,13 +100,16 @@ roundedTo f a c = magnitude f (round f false a (c * 2 ^ low f))
 
 pub rounded-nothing : (f : Format) (c : ℕ) → 0 < c → roundedTo f 0 c ≡ 0
 unfolding roundedTo magnitude
-rounded-nothing f c h = ap (magnitude f) (round-nothing f (c * 2 ^ low f) (mul-pos h (pow-pos (low f)))) ∙ ap (λ (n : ℕ). n / 1) (zero-mul (2 ^ low f))
+rounded-nothing f c h =
+    ap (magnitude f) (round-nothing f (c * 2 ^ low f) (mul-pos h (pow-pos (low f))))
+    ∙ ap (λ (n : ℕ). n / 1) (zero-mul (2 ^ low f))
 
 pub rounded-same : (f : Format) (a c b d : ℕ) → 0 < c → 0 < d → a * d ≡ b * c → roundedTo f a c ≡ roundedTo f b d
 unfolding roundedTo
 rounded-same f a c b d C D h =
     let L = pow-pos (low f) in
-    ap (magnitude f) (round-same f false a (c * 2 ^ low f) b (d * 2 ^ low f) (mul-pos C L) (mul-pos D L) (sym (mul-assoc a d (2 ^ low f)) ∙ ap (λ (z : ℕ). z * 2 ^ low f) h ∙ mul-assoc b c (2 ^ low f)))
+    ap (magnitude f) (round-same f false a (c * 2 ^ low f) b (d * 2 ^ low f) (mul-pos C L) (mul-pos D L)
+    (sym (mul-assoc a d (2 ^ low f)) ∙ ap (λ (z : ℕ). z * 2 ^ low f) h ∙ mul-assoc b c (2 ^ low f)))
 
 pub rounded-mono : (f : Format) (a c b d : ℕ) → 0 < c → 0 < d → a * d ≤ b * c → roundedTo f a c ≤ roundedTo f b d
 unfolding roundedTo
@@ -112,12 +117,14 @@ rounded-mono f a c b d C D h =
     let L = 2 ^ low f in
     let x = round f false a (c * L) in
     let y = round f false b (d * L) in
-    let wide : a * (d * L) ≤ b * (c * L) = subst₂ (λ (m n : ℕ). m ≤ n) (mul-assoc a d L) (mul-assoc b c L) (mul-le-mul-right L h) in
+    let wide : a * (d * L) ≤ b * (c * L) =
+    subst₂ (λ (m n : ℕ). m ≤ n) (mul-assoc a d L) (mul-assoc b c L) (mul-le-mul-right L h) in
     let sx = round-negative f false a (c * L) in
     let sy = round-negative f false b (d * L) in
     let in-order : over f x + under f y ≤ over f y + under f x =
     le-units (round-number f false a (c * L)) (round-number f false b (d * L))
-    (is-true (le x y) (round-mono f a (c * L) b (d * L) (mul-pos C (pow-pos (low f))) (mul-pos D (pow-pos (low f))) wide)) in
+    (is-true (le x y)
+    (round-mono f a (c * L) b (d * L) (mul-pos C (pow-pos (low f))) (mul-pos D (pow-pos (low f))) wide)) in
     omega (arith, over-positive f x sx, under-positive f x sx, over-positive f y sy, under-positive f y sy)
 
 -- ---- a size of few digits rounds to itself
@@ -138,7 +145,8 @@ rounded-short {f} {n} k h =
     let L = 2 ^ low f in
     magnitude-of f (round f false n (1 * L)) false n
     (subst (λ (z : ℕ). HasValue (round f false n (1 * L)) false n z) (one-mul L)
-    (round-exact f false n (1 * L) (k .digits) (k .shift) (mul-pos (pow-pos 0) (pow-pos (low f))) (k .few) (subst (λ (z : ℕ). z < overflow f) (k .exact) h)
+    (round-exact f false n (1 * L) (k .digits) (k .shift) (mul-pos (pow-pos 0) (pow-pos (low f))) (k .few)
+    (subst (λ (z : ℕ). z < overflow f) (k .exact) h)
     (ap (λ (z : ℕ). z * L) (k .exact) ∙ ap (λ (z : ℕ). k .digits * 2 ^ k .shift * z) (sym (one-mul L)))))
 
 -- such is the size of a value of the format, which so is its own rounding

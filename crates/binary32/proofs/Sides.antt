@@ -1,5 +1,6 @@
--- A number seen from zero toward an exact result: what it counts on the result's side, `ahead`, and what it counts on the other, `behind`; one of the two is 0. So a distance is
--- one of natural numbers, and what holds of results above zero and of numbers above zero holds by the same words below. Assumes nothing.
+-- A number seen from zero toward an exact result: what it counts on the result's side, `ahead`, and what it counts on
+-- the other, `behind`; one of the two is 0. So a distance is one of natural numbers, and what holds of results over
+-- zero and of numbers over zero holds by the same words under it. Assumes nothing.
 use mathlib.Core.Path.{_≡_, refl, sym, ap, ap₂, _∙_, subst}
 use mathlib.Core.Logic.{_⊎_, inl, inr, ⊎-elim}
 use mathlib.Core.Bool.{Bool, true, false, cond}
@@ -13,8 +14,10 @@ use lib.Ieee.{Float, Format}
 use Rattle.binary32.specs.Whole.{negative, magnitude, over, under, wholeOf}
 use Rattle.binary32.specs.Nearest.{distance}
 use Rattle.binary32.proofs.Magnitude.{Finite}
-use Rattle.binary32.proofs.RoundedSize.{Short, nothing-short, short, under-positive, over-negative, over-and-under}
-use Rattle.binary32.proofs.Integers.{Difference, whole-difference, same-difference, sum-of, negated-of, times-of, size-of}
+use Rattle.binary32.proofs.RoundedSize.{Short, nothing-short, short, under-positive}
+use Rattle.binary32.proofs.RoundedSize.{over-negative, over-and-under}
+use Rattle.binary32.proofs.Integers.{Difference, whole-difference, same-difference}
+use Rattle.binary32.proofs.Integers.{sum-of, negated-of, times-of, size-of}
 use Rattle.binary32.proofs.NearestSize.{gap}
 
 -- ---- the side of zero on which an exact result lies
@@ -23,7 +26,9 @@ abbrev pub side : ℤ → Bool
 side w = ltZ w (pos 0)
 
 pub own-side : (w : ℤ) → Difference w (cond (side w) 0 (natAbs w)) (cond (side w) (natAbs w) 0)
-own-side (pos a) = subst (λ (s : Bool). Difference (pos a) (cond s 0 a) (cond s a 0)) (sym (le-ltb a 0 zero-le)) (record { is = sym (add-zero a) })
+own-side (pos a) =
+    subst (λ (s : Bool). Difference (pos a) (cond s 0 a) (cond s a 0)) (sym (le-ltb a 0 zero-le))
+    (record { is = sym (add-zero a) })
 own-side (negsuc a) = record { is = sym (zero-add (suc a)) }
 
 -- ---- the two sides of a number
@@ -34,13 +39,18 @@ ahead s f x = cond s (under f x) (over f x)
 unfoldable pub behind : Bool → Format → Float → ℕ
 behind s f x = cond s (over f x) (under f x)
 
-pub distance-sided : (f : Format) (w : ℤ) (c : ℕ) (y : Float) → distance f w c y ≡ gap (natAbs w + behind (side w) f y * c) (ahead (side w) f y * c)
+pub distance-sided : (f : Format) (w : ℤ) (c : ℕ) (y : Float)
+    → distance f w c y ≡ gap (natAbs w + behind (side w) f y * c) (ahead (side w) f y * c)
 unfolding distance ahead behind
-distance-sided f w c y = size-of (sum-of (own-side w) (negated-of (times-of (whole-difference f y) c))) ∙ go (side w) (natAbs w)
+distance-sided f w c y =
+    size-of (sum-of (own-side w) (negated-of (times-of (whole-difference f y) c))) ∙ go (side w) (natAbs w)
   where
-    go : (s : Bool) (a : ℕ) → gap (cond s 0 a + under f y * c) (cond s a 0 + over f y * c) ≡ gap (a + behind s f y * c) (ahead s f y * c)
+    go : (s : Bool) (a : ℕ)
+        → gap (cond s 0 a + under f y * c) (cond s a 0 + over f y * c) ≡ gap (a + behind s f y * c) (ahead s f y * c)
     go false a = ap (λ (n : ℕ). gap (a + under f y * c) n) (zero-add (over f y * c))
-    go true a = ap (λ (n : ℕ). gap n (a + over f y * c)) (zero-add (under f y * c)) ∙ add-comm (under f y * c - (a + over f y * c)) (a + over f y * c - under f y * c)
+    go true a =
+        ap (λ (n : ℕ). gap n (a + over f y * c)) (zero-add (under f y * c))
+        ∙ add-comm (under f y * c - (a + over f y * c)) (a + over f y * c - under f y * c)
 
 -- together they are the size, and one of them is 0
 pub record Sides (f : Format) (o u : ℕ) : Type 0 where
@@ -83,7 +93,8 @@ sides {f} {x} s h = record { short = go (either-side s f x); one = either-side s
     go (inr e) = let is : ahead s f x ≡ magnitude f x = omega (arith, sides-size s f x) in rw is (short h)
 
 -- two numbers with the same sides are the same whole number, and the other way round
-pub whole-of-sides : (s : Bool) (f : Format) (x y : Float) → ahead s f x ≡ ahead s f y → behind s f x ≡ behind s f y → wholeOf f x ≡ wholeOf f y
+pub whole-of-sides : (s : Bool) (f : Format) (x y : Float) → ahead s f x ≡ ahead s f y → behind s f x ≡ behind s f y
+    → wholeOf f x ≡ wholeOf f y
 unfolding ahead behind wholeOf
 whole-of-sides false f x y o u = ap₂ subℕ o u
 whole-of-sides true f x y o u = ap₂ subℕ u o
@@ -94,13 +105,16 @@ one-pair o u p q (inl a) (inr b) e = omega arith
 one-pair o u p q (inr a) (inl b) e = omega arith
 one-pair o u p q (inr a) (inr b) e = omega arith
 
-pub sides-of-whole : (s : Bool) (f : Format) (x y : Float) → wholeOf f x ≡ wholeOf f y → (ahead s f x ≡ ahead s f y) × (behind s f x ≡ behind s f y)
+pub sides-of-whole : (s : Bool) (f : Format) (x y : Float) → wholeOf f x ≡ wholeOf f y
+    → (ahead s f x ≡ ahead s f y) × (behind s f x ≡ behind s f y)
 unfolding ahead behind
 sides-of-whole s f x y e =
     let pair = one-pair (over f x) (under f x) (over f y) (under f y) (one-side f x) (one-side f y)
-    (same-difference (whole-difference f x) (subst (λ (z : ℤ). Difference z (over f y) (under f y)) (sym e) (whole-difference f y))) in
+    (same-difference (whole-difference f x)
+    (subst (λ (z : ℤ). Difference z (over f y) (under f y)) (sym e) (whole-difference f y))) in
     go s pair
   where
-    go : (s : Bool) → (over f x ≡ over f y) × (under f x ≡ under f y) → (ahead s f x ≡ ahead s f y) × (behind s f x ≡ behind s f y)
+    go : (s : Bool) → (over f x ≡ over f y) × (under f x ≡ under f y)
+        → (ahead s f x ≡ ahead s f y) × (behind s f x ≡ behind s f y)
     go false p = p
     go true p = (p .1, p .0)

@@ -1,5 +1,5 @@
--- What a number compared with itself tells: x - x is zero exactly where x is finite, and x differs from x exactly where it is a NaN.
--- Both hold in either format. Assumes nothing.
+-- What a number compared with itself tells: x - x is zero exactly where x is finite, and x differs from x exactly where
+-- it is a NaN. Both hold in either format. Assumes nothing.
 use mathlib.Core.Path.{_≡_, refl, sym, ap, _∙_}
 use mathlib.Core.Bool.{Bool, true, false, not}
 use Prim.Native.Nat.{ℕ, _*_, _<_}

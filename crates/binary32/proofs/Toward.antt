@@ -1,5 +1,6 @@
--- A rounding of w / c units, seen from zero toward w: it counts what the size of w / c rounds to ahead, and nothing behind. And where its size is the nearest of the sizes, no
--- number of the format is nearer to w / c, on either side of zero. In either format. Assumes nothing.
+-- A rounding of w / c units, seen from zero toward w: it counts what the size of w / c rounds to ahead, and nothing
+-- behind. And where its size is the nearest of the sizes, no number of the format is nearer to w / c, on either side of
+-- zero. In either format. Assumes nothing.
 use mathlib.Core.Path.{_≡_, sym, ap, _∙_}
 use mathlib.Core.Logic.{_⊎_, inl, inr, ⊎-elim}
 use mathlib.Core.Bool.{Bool, true, false, cond}
@@ -32,12 +33,14 @@ module _ (f : Format) (z : Float) (c : ℕ) (C : 0 < c) where
   none-of : (a : ℕ) → roundedTo f (0 - a) c ≡ 0
   none-of a = ap (λ (n : ℕ). roundedTo f n c) (zero-sub a) ∙ rounded-nothing f c C
 
-  seen : (s : Bool) (a : ℕ) → Rounded f z (cond s 0 a) (cond s a 0) c → (ahead s f z ≡ roundedTo f a c) × (behind s f z ≡ 0)
+  seen : (s : Bool) (a : ℕ) → Rounded f z (cond s 0 a) (cond s a 0) c
+      → (ahead s f z ≡ roundedTo f a c) × (behind s f z ≡ 0)
   unfolding ahead behind
   seen false a r = (r .above ∙ all-of a, r .below ∙ none-of a)
   seen true a r = (r .below ∙ all-of a, r .above ∙ none-of a)
 
-  unseen : (s : Bool) (a : ℕ) → Number f z → ahead s f z ≡ roundedTo f a c → behind s f z ≡ 0 → Rounded f z (cond s 0 a) (cond s a 0) c
+  unseen : (s : Bool) (a : ℕ) → Number f z → ahead s f z ≡ roundedTo f a c → behind s f z ≡ 0
+      → Rounded f z (cond s 0 a) (cond s a 0) c
   unfolding ahead behind
   unseen false a n o u = record { number = n; above = o ∙ sym (all-of a); below = u ∙ sym (none-of a) }
   unseen true a n o u = record { number = n; above = u ∙ sym (none-of a); below = o ∙ sym (all-of a) }
@@ -49,22 +52,30 @@ module _ {f : Format} {z : Float} {w : ℤ} {p n c : ℕ} (C : 0 < c) (d : Diffe
       record { number = r .number; there = sides .0; back = sides .1 }
 
   pub rounded-toward : Toward f z w c → Rounded f z p n c
-  rounded-toward t = by-difference (unseen f z c C (side w) (natAbs w) (t .number) (t .there) (t .back)) p n (same-difference d (own-side w))
+  rounded-toward t =
+      by-difference (unseen f z c C (side w) (natAbs w) (t .number) (t .there) (t .back)) p n
+      (same-difference d (own-side w))
 
 -- ---- its size and its distance
 
 module _ {f : Format} {z : Float} {w : ℤ} {c : ℕ} (t : Toward f z w c) where
   pub toward-size : magnitude f z ≡ ahead (side w) f z
-  toward-size = sym (sides-size (side w) f z) ∙ ap (λ (u : ℕ). ahead (side w) f z + u) (t .back) ∙ add-zero (ahead (side w) f z)
+  toward-size =
+      sym (sides-size (side w) f z) ∙ ap (λ (u : ℕ). ahead (side w) f z + u) (t .back) ∙ add-zero (ahead (side w) f z)
 
   pub toward-distance : distance f w c z ≡ gap (natAbs w) (ahead (side w) f z * c)
-  toward-distance = distance-sided f w c z ∙ ap (λ (n : ℕ). gap n (ahead (side w) f z * c)) (ap (λ (u : ℕ). natAbs w + u * c) (t .back) ∙ ap (λ (k : ℕ). natAbs w + k) (zero-mul c) ∙ add-zero (natAbs w))
+  toward-distance =
+      distance-sided f w c z ∙ ap (λ (n : ℕ). gap n (ahead (side w) f z * c))
+      (ap (λ (u : ℕ). natAbs w + u * c) (t .back) ∙ ap (λ (k : ℕ). natAbs w + k) (zero-mul c) ∙ add-zero (natAbs w))
 
--- ---- other numbers are no nearer to a / c than the nearest size n: o is what one counts ahead, u what it counts behind
+-- ---- other numbers are no nearer to a / c than the nearest size n: o is what one counts ahead, u what it counts
+-- behind
 
 module _ {f : Format} {a c n o u : ℕ} (C : 0 < c) (N : NearestSize f a c n) (S : Sides f o u) where
   behind-farther : gap a (o * c) ≤ gap (a + u * c) (o * c)
-  behind-farther = ⊎-elim (λ (e : o ≡ 0). rw (e, zero-mul c) (omega arith)) (λ (e : u ≡ 0). rw (e, zero-mul c, add-zero a) (omega arith)) (S .one)
+  behind-farther =
+      ⊎-elim (λ (e : o ≡ 0). rw (e, zero-mul c) (omega arith))
+      (λ (e : u ≡ 0). rw (e, zero-mul c, add-zero a) (omega arith)) (S .one)
 
   pub farther : gap a (n * c) ≤ gap (a + u * c) (o * c)
   farther = le-trans (N .nearest o (S .short)) behind-farther
@@ -85,6 +96,7 @@ module _ {f : Format} {a c n o u : ℕ} (C : 0 < c) (N : NearestSize f a c n) (S
   pub tied : gap (a + u * c) (o * c) ≡ gap a (n * c) → (o ≡ n → u ≡ 0 → ⊥) → Tied
   tied e differ =
       let none = nothing-behind e (S .one) in
-      let level : gap a (o * c) ≡ gap a (n * c) = le-antisymm (le-trans behind-farther (le-of-eq e)) (N .nearest o (S .short)) in
+      let level : gap a (o * c) ≡ gap a (n * c) =
+      le-antisymm (le-trans behind-farther (le-of-eq e)) (N .nearest o (S .short)) in
       let digits = N .tie o (S .short) level (λ i. differ i none) in
       record { none = none; even = digits .0; odd = digits .1 }

@@ -1,9 +1,11 @@
--- The numbers that a format holds are those of IEEE 754-2019, 3.3: each has a size that is `Representable`, and of each such size there is one of either sign. So what 4.3.1 says
--- of the numbers of the format is about these whole numbers, whatever the kit's test `fits` does. In either format. Assumes nothing.
+-- The numbers that a format holds are those of IEEE 754-2019, 3.3: each has a size that is `Representable`, and of each
+-- such size there is one of either sign. So what 4.3.1 says of the numbers of the format is about these whole numbers,
+-- whatever the kit's test `fits` does. In either format. Assumes nothing.
 use mathlib.Core.Path.{_≡_, refl, sym, ap, _∙_}
 use mathlib.Core.Bool.{Bool}
 use Prim.Native.Nat.{ℕ, suc, _+_, _-_, _*_, _^_, _≤_, _<_}
-use native.Mathlib.Nat.{mul-assoc, lt-of-mul-lt-mul-right, lt-of-lt-of-le, lt-of-le-of-lt, le-of-eq, le-trans, mul-le-mul-left, mul-le-mul-right}
+use native.Mathlib.Nat.{mul-assoc, lt-of-mul-lt-mul-right, lt-of-lt-of-le, lt-of-le-of-lt}
+use native.Mathlib.Nat.{le-of-eq, le-trans, mul-le-mul-left, mul-le-mul-right}
 use native.Mathlib.Decide.{decLe}
 use native.Mathlib.Omega.{arith}
 use lib.Pow.{pow-add, pow-mono, le-ones, shl-lt}
@@ -11,7 +13,8 @@ use lib.Ieee.{Float, Format, binary32, binary64, prec, emax, low, round}
 use lib.Ieee.Scale.{overflow}
 use Rattle.binary32.specs.Whole.{Representable, negative, magnitude}
 use Rattle.binary32.proofs.Magnitude.{Finite, finite-under, under-finite, pow-split}
-use Rattle.binary32.proofs.RoundedSize.{roundedTo, Short, short, rounded-short, round-number, round-negative, round-size}
+use Rattle.binary32.proofs.RoundedSize.{roundedTo, Short, short, rounded-short}
+use Rattle.binary32.proofs.RoundedSize.{round-number, round-negative, round-size}
 
 -- the largest shift, and all digits, reach up to the overflow bound
 reaches : (f : Format) → prec f + (2 * emax f - 1) ≡ low f + suc (emax f)
@@ -35,9 +38,12 @@ representable {f} {x} h = go (decLe (k .shift) most)
     go (no l) =
         let long : most ≤ k .shift = omega arith in
         let d = k .digits * 2 ^ (k .shift - most) in
-        let is : magnitude f x ≡ d * 2 ^ most = k .exact ∙ ap (λ (n : ℕ). k .digits * n) (pow-split (k .shift) most long) ∙ sym (mul-assoc (k .digits) (2 ^ (k .shift - most)) (2 ^ most)) in
+        let is : magnitude f x ≡ d * 2 ^ most =
+        k .exact ∙ ap (λ (n : ℕ). k .digits * n) (pow-split (k .shift) most long)
+        ∙ sym (mul-assoc (k .digits) (2 ^ (k .shift - most)) (2 ^ most)) in
         let under : d * 2 ^ most < 2 ^ prec f * 2 ^ most =
-        lt-of-le-of-lt (le-of-eq (sym is)) (lt-of-lt-of-le (finite-under h) (le-of-eq (ap (λ (n : ℕ). 2 ^ n) (sym (reaches f)) ∙ pow-add 2 (prec f) most))) in
+        lt-of-le-of-lt (le-of-eq (sym is)) (lt-of-lt-of-le (finite-under h)
+        (le-of-eq (ap (λ (n : ℕ). 2 ^ n) (sym (reaches f)) ∙ pow-add 2 (prec f) most))) in
         record { digits = d; shift = most; few = lt-of-mul-lt-mul-right (2 ^ most) under; reach = omega arith; is = is }
 
 -- ---- the largest of them
@@ -49,7 +55,8 @@ pub at-most-largest : {f : Format} {x : Float} → Finite f x → magnitude f x 
 unfolding largest
 at-most-largest {f} h =
     let r = representable h in
-    le-trans (le-of-eq (r .is)) (le-trans (mul-le-mul-right (2 ^ r .shift) (le-ones (prec f) (r .few))) (mul-le-mul-left (2 ^ prec f - 1) (pow-mono (r .reach))))
+    le-trans (le-of-eq (r .is)) (le-trans (mul-le-mul-right (2 ^ r .shift) (le-ones (prec f) (r .few)))
+    (mul-le-mul-left (2 ^ prec f - 1) (pow-mono (r .reach))))
 
 -- ---- and a number of each such size
 
@@ -64,9 +71,11 @@ unfolding roundedTo
 number-of {f} {n} s r =
     let x = round f s n (1 * 2 ^ low f) in
     let under : n < overflow f =
-    lt-of-le-of-lt (le-of-eq (r .is)) (lt-of-lt-of-le (shl-lt (prec f) (r .shift) (r .few)) (pow-mono (omega (arith, r .reach, reaches f)))) in
+    lt-of-le-of-lt (le-of-eq (r .is))
+    (lt-of-lt-of-le (shl-lt (prec f) (r .shift) (r .few)) (pow-mono (omega (arith, r .reach, reaches f)))) in
     let size : magnitude f x ≡ n =
-    round-size f s n (1 * 2 ^ low f) ∙ rounded-short (record { digits = r .digits; shift = r .shift; few = r .few; exact = r .is }) under in
+    round-size f s n (1 * 2 ^ low f)
+    ∙ rounded-short (record { digits = r .digits; shift = r .shift; few = r .few; exact = r .is }) under in
     record {
       value = x;
       finite = under-finite (round-number f s n (1 * 2 ^ low f)) (lt-of-le-of-lt (le-of-eq size) under);

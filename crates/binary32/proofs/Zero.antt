@@ -1,5 +1,6 @@
--- What is zero and what is not, at binary32. A product by +0 is a zero, and so is a sum of zeros. The difference of two numbers of which one is the smaller
--- is no zero, since one unit is a value of the format: it is under zero where the first is the smaller, and over zero where the second is. Assumes nothing.
+-- What is zero and what is not, at binary32. A product by +0 is a zero, and so is a sum of zeros. The difference of two
+-- numbers of which one is the smaller is no zero, since one unit is a value of the format: it is under zero where the
+-- first is the smaller, and over zero where the second is. Assumes nothing.
 use mathlib.Core.Path.{_≡_, refl}
 use mathlib.Core.Bool.{true}
 use Prim.Native.Nat.{ℕ, _-_, _<_}
@@ -24,10 +25,13 @@ nothing {f} r = exactly r (nothing-short f) (pow-pos _)
 
 pub zero-product : {x : Float} → Finite binary32 x → Exactly binary32 (0f *f x) 0
 zero-product {x} h =
-    nothing (by-fraction (mul-rounded zero-finite h) 0 0 1 (pow-pos (low binary32)) (pow-pos 0) (simp (zero-over, zero-under, zero-mul)))
+    nothing (by-fraction (mul-rounded zero-finite h) 0 0 1 (pow-pos (low binary32)) (pow-pos 0)
+    (simp (zero-over, zero-under, zero-mul)))
 
 pub zero-sum : {x y : Float} → Exactly binary32 x 0 → Exactly binary32 y 0 → Exactly binary32 (x +f y) 0
-zero-sum hx hy = nothing (by-difference (add-rounded (hx .finite) (hy .finite)) 0 0 (omega (arith, hx .above, hx .below, hy .above, hy .below)))
+zero-sum hx hy =
+    nothing (by-difference (add-rounded (hx .finite) (hy .finite)) 0 0
+    (omega (arith, hx .above, hx .below, hy .above, hy .below)))
 
 -- ---- a rounding of what is not nothing is not nothing, and has its sign
 
@@ -44,17 +48,33 @@ rounded-some f a h = omega (arith, one-unit f, rounded-mono f 1 1 a 1 (pow-pos 0
 rounded-none : (f : Format) (a : ℕ) → a ≡ 0 → roundedTo f a 1 ≡ 0
 rounded-none f a e = rw e (rounded-nothing f 1 (pow-pos 0))
 
--- what is below zero rounds to what is under it, and what is above zero to what is over it
+-- what is under zero rounds to what is under it, and what is over zero to what is over it
 module _ {z : Float} {p n : ℕ} (r : Rounded binary32 z p n 1) where
   under-zero : p < n → lt z 0f ≡ true
   under-zero h =
       units-lt (r .number) zero-number
-      (omega (arith, zero-over, zero-under, r .above, r .below, rounded-none binary32 (p - n) (omega arith), rounded-some binary32 (n - p) (omega arith)))
+      (omega (
+        arith,
+        zero-over,
+        zero-under,
+        r .above,
+        r .below,
+        rounded-none binary32 (p - n) (omega arith),
+        rounded-some binary32 (n - p) (omega arith),
+      ))
 
   over-zero : n < p → lt 0f z ≡ true
   over-zero h =
       units-lt zero-number (r .number)
-      (omega (arith, zero-over, zero-under, r .above, r .below, rounded-some binary32 (p - n) (omega arith), rounded-none binary32 (n - p) (omega arith)))
+      (omega (
+        arith,
+        zero-over,
+        zero-under,
+        r .above,
+        r .below,
+        rounded-some binary32 (p - n) (omega arith),
+        rounded-none binary32 (n - p) (omega arith),
+      ))
 
 -- ---- differences
 

@@ -1,5 +1,5 @@
--- The four operations of IEEE 754-2019 (5.4.1) at binary32, written as signs, the absolute value, and three constants: each constant is the bit pattern
--- that the code's literal compiles to. Definitions only.
+-- The four operations of IEEE 754-2019 (5.4.1) at binary32, written as signs, the absolute value, and three constants:
+-- each constant is the bit pattern that the code's literal compiles to. Definitions only.
 use mathlib.Core.Bool.{false}
 use lib.Ieee.{Float, nan, inf, fin, binary32, add, sub, mul, div, ofBits}
 

@@ -1,5 +1,6 @@
--- How far a number that is delivered may lie from the exact result, the fraction p / c in units (specs/Nearest.antt): within half a unit in its last place. Distances are
--- multiplied by c, as there. No definition rests on this one: proofs/HalfUnit shows that every finite number that is delivered meets it. Definitions only.
+-- How far a number that is delivered may lie from the exact result, the fraction p / c in units (specs/Nearest.antt):
+-- within half a unit in its last place. Distances are multiplied by c, as there. No definition rests on this one:
+-- proofs/HalfUnit shows that every finite number that is delivered meets it. Definitions only.
 use Prim.Native.Nat.{ℕ, _+_, _-_, _*_, _^_, _≤_, _<_}
 use lib.IntN.{ℤ, natAbs}
 use lib.Ieee.{Float, Format, prec}
@@ -9,7 +10,8 @@ use Rattle.binary32.specs.Nearest.{distance}
 unfoldable pub leastNormal : Format → ℕ
 leastNormal f = 2 ^ (prec f - 1)
 
--- The size is the exact result's. That of the number delivered would not do: 2 ^ -126 - 2 ^ -150 is delivered as 2 ^ -126, which is normal, and lies half a unit away.
+-- The size is the exact result's. That of the number delivered would not do: 2 ^ -126 - 2 ^ -150 is delivered as
+-- 2 ^ -126, which is normal, and lies half a unit away.
 pub record WithinHalfUnit (f : Format) (p : ℤ) (c : ℕ) (z : Float) : Type 0 where
   -- sizes up to 2 ^ (prec + k) units have numbers that are at most 2 ^ k units apart: z lies within half of that
   pub last-place : (k : ℕ) → natAbs p ≤ 2 ^ (prec f + k) * c → 2 * distance f p c z ≤ 2 ^ k * c

@@ -1,6 +1,8 @@
--- The results that IEEE 754-2019 asks of the four operations of 5.4.1, rounding to nearest, ties to even, with a row for each case: `Addition f x y z` says that z is what is
--- delivered for x + y, and so on. For finite operands the exact result is a fraction of whole numbers of units, which 4.3.1 rounds; the rows of infinities and
--- NaN follow 6.1, 6.2 and 7, the rows of signs 6.3. There is one NaN here, with no sign (lib.Ieee). The standard's flags and a NaN's payload are not spoken of. Definitions only.
+-- The results that IEEE 754-2019 asks of the four operations of 5.4.1, rounding to nearest, ties to even, with a row
+-- for each case: `Addition f x y z` says that z is what is delivered for x + y, and so on. For finite operands the
+-- exact result is a fraction of whole numbers of units, which 4.3.1 rounds; the rows of infinities and NaN follow 6.1,
+-- 6.2 and 7, the rows of signs 6.3. There is one NaN here, with no sign (lib.Ieee). The standard's flags and a NaN's
+-- payload are not spoken of. Definitions only.
 use mathlib.Core.Path.{_≡_}
 use mathlib.Core.Bool.{Bool, not, _&&_, _||_}
 use Prim.Native.Nat.{_*_, _^_, _<_}
@@ -51,8 +53,8 @@ pub record Multiplication (f : Format) (x y z : Float) : Type 0 where
 
 -- x / y
 pub record Division (f : Format) (x y z : Float) : Type 0 where
-  -- 4.3.1: the exact quotient is rounded. It is multiplied by 2 ^ low, which makes it units again; and both parts of the fraction by the divisor, so that the
-  -- lower one is above zero.
+  -- 4.3.1: the exact quotient is rounded. It is multiplied by 2 ^ low, which makes it units again; and both parts of
+  -- the fraction by the divisor, so that the lower one is over zero.
   pub rounded : T (finite x) → T (finite y) → 0 < magnitude f y
       → RoundsTo f (wholeOf f x *ℤ wholeOf f y *ℤ pos (2 ^ low f)) (magnitude f y * magnitude f y) z
   -- 6.3: negative where one operand is and the other is not

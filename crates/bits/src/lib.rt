@@ -16,7 +16,7 @@ const INFINITY: u32 = 0x7f80_0000;
 // The NaN with the sign clear and only the highest of the digits set.
 const NAN: u32 = 0x7fc0_0000;
 
-// The float of a pattern. Without its sign, a NaN's pattern is a number above +infinity's.
+// The float of a pattern. Without its sign, a NaN's pattern is a number over +infinity's.
 pub fn float_of(bits: u32) -> f32
     ensures { λ r. ⌜ r ≡ ofBits binary32 bits ⌝ }
 {

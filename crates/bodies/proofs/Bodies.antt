@@ -1,4 +1,5 @@
--- The bodies of an accepted sheet: each lies within it and has 16 or 20 bytes, and after the contents they tile it. Assumes nothing.
+-- The bodies of an accepted sheet: each lies within it and has 16 or 20 bytes, and after the contents they tile it.
+-- Assumes nothing.
 use mathlib.Core.Path.{_≡_, refl, sym, ap, _∙_}
 use mathlib.Core.Bool.{Bool, true, false, cond, _&&_, false≢true}
 use mathlib.Core.List.{List, [], _++_}
@@ -40,7 +41,9 @@ module _ {s : List ℕ} (known : Accepted s) (i : ℕ) (under : i < countOf s) w
   -- so it has all its bytes
   pub body-length : length (bodyOf s i) ≡ bodySize (kindOf s i)
   unfolding bodyOf
-  body-length = length-take-le (bodySize (kindOf s i)) (drop (offsetOf s i) s) (let room : offsetOf s i + bodySize (kindOf s i) ≤ length s = body-within in rw length-drop (omega arith))
+  body-length =
+      length-take-le (bodySize (kindOf s i)) (drop (offsetOf s i) s)
+      (let room : offsetOf s i + bodySize (kindOf s i) ≤ length s = body-within in rw length-drop (omega arith))
 
 -- which are 16 or 20
 pub sixteen-or-twenty : (kind : ℕ) → (bodySize kind ≡ 16) ⊎ (bodySize kind ≡ 20)
@@ -60,16 +63,21 @@ bodiesFrom s i (suc left) = bodyOf s i ++ bodiesFrom s (suc i) left
 
 rest-tiled : (s : List ℕ) → Accepted s → (left i : ℕ) → i + left ≡ countOf s → drop (bodyAt s i) s ≡ bodiesFrom s i left
 unfolding bodiesFrom bodyOf
-rest-tiled s known zero i e = drop-of-length-le s {i = bodyAt s i} (let all : i ≡ countOf s = rw add-zero at e in let end = known .ends in rw all (omega arith))
+rest-tiled s known zero i e =
+    drop-of-length-le s {i = bodyAt s i}
+    (let all : i ≡ countOf s = rw add-zero at e in let end = known .ends in rw all (omega arith))
 rest-tiled s known (suc left) i e =
     let under : i < countOf s = omega arith in
     let next = rest-tiled s known left (suc i) (rw (suc-add, ← add-suc) e) in
     let size = bodySize (kindOf s i) in
-    rw (known .entries i under .offset, ← next, ← add-one i, body-next, ← drop-drop) (sym (take-append-drop size (drop (bodyAt s i) s)))
+    rw (known .entries i under .offset, ← next, ← add-one i, body-next, ← drop-drop)
+    (sym (take-append-drop size (drop (bodyAt s i) s)))
 
 -- the contents, then the bodies, are the sheet
 pub tiled : (s : List ℕ) → Accepted s → s ≡ take (entryAt (countOf s)) s ++ bodiesFrom s 0 (countOf s)
-tiled s known = sym (take-append-drop (entryAt (countOf s)) s) ∙ ap (λ (l : List ℕ). take (entryAt (countOf s)) s ++ l) (rw body-first at (rest-tiled s known (countOf s) 0 (omega arith)))
+tiled s known =
+    sym (take-append-drop (entryAt (countOf s)) s) ∙ ap (λ (l : List ℕ). take (entryAt (countOf s)) s ++ l)
+    (rw body-first at (rest-tiled s known (countOf s) 0 (omega arith)))
 
 -- ---- what is handed back
 
@@ -92,7 +100,8 @@ has-when : (s : List ℕ) (i : ℕ) → hasBody s i ≡ true → (judged s .numb
 unfolding hasBody
 has-when s i h = go (eqb (judged s .number) accepted) refl h
   where
-    go : (t : Bool) → eqb (judged s .number) accepted ≡ t → t && ltb i (countOf s) ≡ true → (judged s .number ≡ accepted) × (i < countOf s)
+    go : (t : Bool) → eqb (judged s .number) accepted ≡ t → t && ltb i (countOf s) ≡ true
+        → (judged s .number ≡ accepted) × (i < countOf s)
     go true is under = (eqb-true (judged s .number) accepted is, ltb-true i (countOf s) under)
     go false is never = absurd (false≢true never)
 
@@ -107,7 +116,8 @@ module _ (s : List ℕ) (i : ℕ) where
   unfolding handedBack handedAt
   body-placed has =
       let when = has-when s i has in
-      rw has (ap (λ (n : ℕ). record { at = offsetOf s i; size = n }) (body-length (is-accepted s (when .0)) i (when .1)))
+      rw has
+      (ap (λ (n : ℕ). record { at = offsetOf s i; size = n }) (body-length (is-accepted s (when .0)) i (when .1)))
 
   -- a part that lies within the sheet
   pub place-within : handedAt s i + length (handedBack s i) ≤ length s
@@ -115,7 +125,9 @@ module _ (s : List ℕ) (i : ℕ) where
   place-within = go (hasBody s i) refl
     where
       go : (t : Bool) → hasBody s i ≡ t → cond t (offsetOf s i) 0 + length (cond t (bodyOf s i) []) ≤ length s
-      go true has = let when = has-when s i has in let known = is-accepted s (when .0) in rw (body-length known i (when .1)) (body-within known i (when .1))
+      go true has =
+          let when = has-when s i has in let known = is-accepted s (when .0) in
+          rw (body-length known i (when .1)) (body-within known i (when .1))
       go false none = omega arith
 
   -- and has the bytes that are handed back
@@ -123,11 +135,14 @@ module _ (s : List ℕ) (i : ℕ) where
   unfolding handedBack handedAt bodyOf
   place-bytes = go (hasBody s i) refl
     where
-      go : (t : Bool) → hasBody s i ≡ t → take (length (cond t (bodyOf s i) [])) (drop (cond t (offsetOf s i) 0) s) ≡ cond t (bodyOf s i) []
+      go : (t : Bool) → hasBody s i ≡ t
+          → take (length (cond t (bodyOf s i) [])) (drop (cond t (offsetOf s i) 0) s) ≡ cond t (bodyOf s i) []
       go true has = let when = has-when s i has in rw (body-length (is-accepted s (when .0)) i (when .1))
       go false none = refl
 
 -- of an accepted sheet, every entry's body is handed back whole: 16 or 20 bytes
-pub handed-length : (s : List ℕ) (i : ℕ) → judged s .number ≡ accepted → i < countOf s → (length (handedBack s i) ≡ 16) ⊎ (length (handedBack s i) ≡ 20)
+pub handed-length : (s : List ℕ) (i : ℕ) → judged s .number ≡ accepted → i < countOf s
+    → (length (handedBack s i) ≡ 16) ⊎ (length (handedBack s i) ≡ 20)
 unfolding handedBack
-handed-length s i is under = rw (body-under s i is under, body-length (is-accepted s is) i under) (sixteen-or-twenty (kindOf s i))
+handed-length s i is under =
+    rw (body-under s i is under, body-length (is-accepted s is) i under) (sixteen-or-twenty (kindOf s i))

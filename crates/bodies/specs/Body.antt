@@ -22,15 +22,17 @@ hasBody s i = isAccepted s && ltb i (countOf s)
 unfoldable pub bodyOf : List ℕ → ℕ → List ℕ
 bodyOf s i = take (bodySize (kindOf s i)) (drop (offsetOf s i) s)
 
--- "hands back the body of entry i as that part of the sheet", or "an empty part": its bytes, and where in the sheet it begins, an empty one at the start
+-- "hands back the body of entry i as that part of the sheet", or "an empty part": its bytes, and where in the sheet it
+-- begins, an empty one at the start
 unfoldable pub handedBack : List ℕ → ℕ → List ℕ
 handedBack s i = cond (hasBody s i) (bodyOf s i) []
 
 unfoldable pub handedAt : List ℕ → ℕ → ℕ
 handedAt s i = cond (hasBody s i) (offsetOf s i) 0
 
--- The part that is handed back is one "of the sheet" that was lent, and no copy. A reference points to a place in a block of memory; the part's is in the sheet's
--- block, as many bytes after the sheet's as the part begins after the sheet.
+-- The part that is handed back is one "of the sheet" that was lent, and no copy. A reference points to a place in a
+-- block of memory; the part's is in the sheet's block, as many bytes after the sheet's as the part begins after the
+-- sheet.
 pub record Handed (sheet : RefT (List ℕ)) (i : ℕ) (part : RefT (List ℕ)) : Type 0 where
   pub bytes : now part ≡ handedBack (now sheet) i
   pub block : ptr part .0 ≡ ptr sheet .0

@@ -15,7 +15,8 @@ pub struct Part {
     pub size: usize,
 }
 
-// Where the body of entry i stands; an empty part at the start for a refused sheet and for an entry that it does not have.
+// Where the body of entry i stands; an empty part at the start for a refused sheet and for an entry that it does not
+// have.
 pub fn place(sheet: &[u8], i: usize) -> Part
     ensures { λ r. ⌜ r ≡ placeOf (now (sheet .entry)) i ⌝ }
 {
@@ -25,14 +26,15 @@ pub fn place(sheet: &[u8], i: usize) -> Part
     if i >= count(sheet) as usize {
         return Part { at: 0, size: 0 };
     }
-    let entry = i as u8;
+    let number = i as u8;
     Part {
-        at: offset(sheet, entry) as usize,
-        size: body_size(kind(sheet, entry)),
+        at: offset(sheet, number) as usize,
+        size: body_size(kind(sheet, number)),
     }
 }
 
-// The body of entry i, as that part of the sheet; an empty part for a refused sheet and for an entry that it does not have.
+// The body of entry i, as that part of the sheet; an empty part for a refused sheet and for an entry that it does not
+// have.
 pub fn body(sheet: &[u8], i: usize) -> &[u8]
     ensures { λ r. ⌜ Handed (sheet .entry) i r ⌝ }
 {

@@ -5,7 +5,8 @@ use Prim.Native.Nat.{ℕ}
 use lib.Dec.{eqb}
 use lib.Ieee.{Float}
 use Rattle.entries.specs.declared.choice.Case.{Case}
-use Rattle.entries.specs.declared.choice.Case.the-variants.{Plain as PlainCase, ThrustFloor as ThrustFloorCase, Priority as PriorityCase}
+use Rattle.entries.specs.declared.choice.Case.the-variants.{Plain as PlainCase, ThrustFloor as ThrustFloorCase}
+use Rattle.entries.specs.declared.choice.Case.the-variants.{Priority as PriorityCase}
 use Rattle.entries.specs.declared.choice.Case.the-variants.{Airmode as AirmodeCase, RotorOut as RotorOutCase}
 use Rattle.entries.specs.declared.command.Command.{Command}
 use Rattle.entries.specs.declared.command.Command.the-variants.{Plain, ThrustFloor, Priority, Airmode, RotorOut}
@@ -23,11 +24,13 @@ unfolding caseOf commandOf
 command-by-kind kind rotor t r p y floor = go (eqb kind 0) (eqb kind 1) (eqb kind 2) (eqb kind 3) (failedOf rotor)
   where
     case : Bool → Bool → Bool → Bool → ℕ → Case
-    case a b c d lost = cond a PlainCase (cond b ThrustFloorCase (cond c PriorityCase (cond d AirmodeCase (RotorOutCase lost))))
+    case a b c d lost =
+        cond a PlainCase (cond b ThrustFloorCase (cond c PriorityCase (cond d AirmodeCase (RotorOutCase lost))))
 
     command : Bool → Bool → Bool → Bool → ℕ → Command
     command a b c d lost =
-        cond a (Plain t r p y) (cond b (ThrustFloor t r p y floor) (cond c (Priority t r p y floor) (cond d (Airmode t r p y floor) (RotorOut lost t r p y floor))))
+        cond a (Plain t r p y) (cond b (ThrustFloor t r p y floor)
+        (cond c (Priority t r p y floor) (cond d (Airmode t r p y floor) (RotorOut lost t r p y floor))))
 
     go : (a b c d : Bool) (lost : ℕ) → commandOf (case a b c d lost) t r p y floor ≡ command a b c d lost
     go true b c d lost = refl

@@ -1,23 +1,26 @@
--- Each public contract determines its answer: two results that satisfy it are one. A contract of this crate either says what the answer equals, or is `Chosen`, whose
--- number and cases tell the answers apart. Assumes nothing.
+-- Each public contract determines its answer: two results that satisfy it are one. A contract of this crate either says
+-- what the answer equals, or is `Chosen`, whose number and cases tell the answers apart. Assumes nothing.
 use mathlib.Core.Path.{_≡_, refl, sym, ap, _∙_}
 use mathlib.Core.Bool.{cond}
 use mathlib.Core.List.{List}
 use Prim.Native.Nat.{ℕ}
 use lib.Dec.{eqb}
 use borrow.Author.Tests.{eqb-false}
-use Rattle.refusals.specs.Numbers.{accepted, tooShort, badVersion, tooMany, badLength, badKind, badRotor, badOffset, badEnd}
+use Rattle.refusals.specs.Numbers.{accepted, tooShort, badVersion, tooMany, badLength}
+use Rattle.refusals.specs.Numbers.{badKind, badRotor, badOffset, badEnd}
 use Rattle.general.proofs.Determined.{Determined, equal-determined}
 use Rattle.entries.specs.declared.choice.Case.{Case}
 use Rattle.entries.specs.declared.choice.Choice.{Choice}
 use Rattle.entries.specs.declared.choice.Choice.the-variants.{Is, Refused}
 use Rattle.entries.specs.declared.refusal.Refusal.{Refusal}
-use Rattle.entries.specs.declared.refusal.Refusal.the-variants.{TooShort, BadVersion, TooMany, BadLength, BadKind, BadRotor, BadOffset, BadEnd, ShortOutput}
-use Rattle.entries.specs.Layout.{versionOf, countOf, lengthField, entryAt, kindOf, rotorOf, offsetOf, bodySize, numberIn}
-use Rattle.entries.specs.Refusal.{numberOf}
+use Rattle.entries.specs.declared.refusal.Refusal.the-variants.{TooShort, BadVersion, TooMany, BadLength, BadKind}
+use Rattle.entries.specs.declared.refusal.Refusal.the-variants.{BadRotor, BadOffset, BadEnd, ShortOutput}
+use Rattle.entries.specs.Layout.{versionOf, countOf, lengthField, entryAt, kindOf}
+use Rattle.entries.specs.Layout.{rotorOf, offsetOf, bodySize, numberIn}
+use Rattle.entries.specs.Refusal.{refusalNumber}
 use Rattle.entries.specs.Choice.{choiceTold, casesIn, ChosenBy}
 use Rattle.entries.specs.Entry.{commandWith}
-use Rattle.entries.proofs.Answers.{never-accepted}
+use Rattle.entries.proofs.Chosen.{never-accepted}
 
 -- ---- the numbers tell the refusals apart
 
@@ -28,9 +31,10 @@ named n =
     (cond (eqb n badVersion) BadVersion
     (cond (eqb n tooMany) TooMany
     (cond (eqb n badLength) BadLength
-    (cond (eqb n badKind) BadKind (cond (eqb n badRotor) BadRotor (cond (eqb n badOffset) BadOffset (cond (eqb n badEnd) BadEnd ShortOutput)))))))
+    (cond (eqb n badKind) BadKind
+    (cond (eqb n badRotor) BadRotor (cond (eqb n badOffset) BadOffset (cond (eqb n badEnd) BadEnd ShortOutput)))))))
 
-named-number : (r : Refusal) → named (numberOf r) ≡ r
+named-number : (r : Refusal) → named (refusalNumber r) ≡ r
 unfolding named
 named-number TooShort = refl
 named-number BadVersion = refl
@@ -42,7 +46,7 @@ named-number BadOffset = refl
 named-number BadEnd = refl
 named-number ShortOutput = refl
 
-pub number-tells : (r q : Refusal) → numberOf r ≡ numberOf q → r ≡ q
+pub number-tells : (r q : Refusal) → refusalNumber r ≡ refusalNumber q → r ≡ q
 number-tells r q e = sym (named-number r) ∙ ap named e ∙ named-number q
 
 -- ---- so do the number and the case of a choice
@@ -50,8 +54,8 @@ number-tells r q e = sym (named-number r) ∙ ap named e ∙ named-number q
 choice-tells : (c d : Choice) → choiceTold c ≡ choiceTold d → casesIn c ≡ casesIn d → c ≡ d
 choice-tells (Is a) (Is b) n l = let same : a ≡ b = cc in ap Is same
 choice-tells (Refused r) (Refused q) n l = ap Refused (number-tells r q n)
-choice-tells (Is a) (Refused q) n l = absurd (eqb-false (numberOf q) accepted (never-accepted q) (sym n))
-choice-tells (Refused r) (Is b) n l = absurd (eqb-false (numberOf r) accepted (never-accepted r) n)
+choice-tells (Is a) (Refused q) n l = absurd (eqb-false (refusalNumber q) accepted (never-accepted q) (sym n))
+choice-tells (Refused r) (Is b) n l = absurd (eqb-false (refusalNumber r) accepted (never-accepted r) n)
 
 -- ---- the public functions
 
@@ -83,7 +87,7 @@ module _ (s : List ℕ) (i j kind rotor : ℕ) (case : Case) (r : Refusal) where
   pub number-in-determined : Determined (λ x. x ≡ numberIn s i j)
   number-in-determined = equal-determined
 
-  pub number-determined : Determined (λ n. n ≡ numberOf r)
+  pub number-determined : Determined (λ n. n ≡ refusalNumber r)
   number-determined = equal-determined
 
   pub choose-determined : Determined (ChosenBy kind rotor)

@@ -1,5 +1,6 @@
--- What the kind and the rotor byte of an entry choose, before any of its numbers is read: which of the five commands it is, or which of
--- refusals 5 and 6 (document 01, 'The command sheet (ours)'). Definitions only; the quotations are document 01's.
+-- What the kind and the rotor byte of an entry choose, before any of its numbers is read: which of the five commands it
+-- is, or which of refusals 5 and 6 (document 01, 'The command sheet (ours)'). Definitions only; the quotations are
+-- document 01's.
 use mathlib.Core.Path.{_≡_}
 use mathlib.Core.Bool.{cond, not, _&&_}
 use mathlib.Core.List.{List, [], _∷_}
@@ -11,7 +12,7 @@ use Rattle.entries.specs.declared.choice.Case.{Case}
 use Rattle.entries.specs.declared.choice.Case.the-variants.{Plain, ThrustFloor, Priority, Airmode, RotorOut}
 use Rattle.entries.specs.declared.choice.Choice.{Choice}
 use Rattle.entries.specs.declared.choice.Choice.the-variants.{Is, Refused}
-use Rattle.entries.specs.Refusal.{numberOf}
+use Rattle.entries.specs.Refusal.{refusalNumber}
 
 -- ---- the case
 
@@ -22,7 +23,8 @@ noneLost = 4
 unfoldable pub failedOf : ℕ → ℕ
 failedOf rotor = cond (ltb rotor noneLost) rotor noneLost
 
--- "Kinds 0 plain, 1 thrust-floor, 2 priority, 3 airmode, 4 rotor-out." (No case is asked of a kind over 4, which is refused.)
+-- "Kinds 0 plain, 1 thrust-floor, 2 priority, 3 airmode, 4 rotor-out." (No case is asked of a kind over 4, which is
+-- refused.)
 unfoldable pub caseOf : ℕ → ℕ → Case
 caseOf kind rotor =
     cond (eqb kind 0) Plain
@@ -35,14 +37,16 @@ caseOf kind rotor =
 
 -- "entry's kind over 4", then "rotor byte not 0, kind not 4"
 unfoldable pub choiceNumber : ℕ → ℕ → ℕ
-choiceNumber kind rotor = first (given (ltb 4 kind) badKind ∷ given (not (eqb kind 4) && not (eqb rotor 0)) badRotor ∷ [])
+choiceNumber kind rotor =
+    first (given (ltb 4 kind) badKind ∷ given (not (eqb kind 4) && not (eqb rotor 0)) badRotor ∷ [])
 
 -- ---- the answer
 
--- the paper's number and the values for each case of `Choice`: the number 0 and the case of a command, or the refusal's number
+-- the paper's number and the values for each case of `Choice`: the number 0 and the case of a command, or the refusal's
+-- number
 abbrev pub choiceTold : Choice → ℕ
 choiceTold (Is c) = accepted
-choiceTold (Refused r) = numberOf r
+choiceTold (Refused r) = refusalNumber r
 
 abbrev pub casesIn : Choice → List Case
 casesIn (Is c) = c ∷ []

@@ -1,10 +1,11 @@
--- An entry of a sheet as "one command of five kinds, each carrying its own floats" (document 01, 'The command sheet (ours)' and 'Language
--- forms in the code'). Definitions only; the quotations are document 01's.
+-- An entry of a sheet as "one command of five kinds, each carrying its own floats" (document 01, 'The command sheet
+-- (ours)' and 'Language forms in the code'). Definitions only; the quotations are document 01's.
 use mathlib.Core.List.{List}
 use Prim.Native.Nat.{ℕ}
 use lib.Ieee.{Float}
 use Rattle.entries.specs.declared.choice.Case.{Case}
-use Rattle.entries.specs.declared.choice.Case.the-variants.{Plain as PlainCase, ThrustFloor as ThrustFloorCase, Priority as PriorityCase}
+use Rattle.entries.specs.declared.choice.Case.the-variants.{Plain as PlainCase, ThrustFloor as ThrustFloorCase}
+use Rattle.entries.specs.declared.choice.Case.the-variants.{Priority as PriorityCase}
 use Rattle.entries.specs.declared.choice.Case.the-variants.{Airmode as AirmodeCase, RotorOut as RotorOutCase}
 use Rattle.entries.specs.declared.command.Command.{Command}
 use Rattle.entries.specs.declared.command.Command.the-variants.{Plain, ThrustFloor, Priority, Airmode, RotorOut}

@@ -1,5 +1,5 @@
--- Where the numbers of a sheet stand (document 01, 'The command sheet (ours)'). A sheet is the list of its bytes; a byte past its end counts as 0. Definitions
--- only; the quotations are document 01's.
+-- Where the numbers of a sheet stand (document 01, 'The command sheet (ours)'). A sheet is the list of its bytes; a
+-- byte past its end counts as 0. Definitions only; the quotations are document 01's.
 use mathlib.Core.Bool.{cond}
 use mathlib.Core.List.{List}
 use Prim.Native.Nat.{ℕ, zero, suc, _+_, _*_}
@@ -36,12 +36,13 @@ offsetOf s i = readAt 2 s (entryAt i + 2)
 
 -- ---- the bodies
 
--- "A body holds f32 thrust, roll, pitch, yaw (16 bytes) and, except for plain, floor (20 bytes)": how many bytes it has, by the kind
+-- "A body holds f32 thrust, roll, pitch, yaw (16 bytes) and, except for plain, floor (20 bytes)": how many bytes it
+-- has, by the kind
 unfoldable pub bodySize : ℕ → ℕ
 bodySize kind = cond (eqb kind 0) 16 20
 
--- "Then bodies in entry order, touching": where the body of entry i has to begin, which is the end of the one before it, and for the first the end of the
--- contents; for i = k, where the sheet has to end
+-- "Then bodies in entry order, touching": where the body of entry i has to begin, which is the end of the one before
+-- it, and for the first the end of the contents; for i = k, where the sheet has to end
 unfoldable pub bodyAt : List ℕ → ℕ → ℕ
 bodyAt s zero = entryAt (countOf s)
 bodyAt s (suc i) = bodyAt s i + bodySize (kindOf s i)

@@ -1,16 +1,19 @@
--- The paper's number for each case of `Refusal` (the table in document 01, 'The command sheet (ours)'). Definitions only.
+-- The paper's number for each case of `Refusal` (the table in document 01, 'The command sheet (ours)'). Definitions
+-- only.
 use Prim.Native.Nat.{ℕ}
-use Rattle.refusals.specs.Numbers.{tooShort, badVersion, tooMany, badLength, badKind, badRotor, badOffset, badEnd, shortOutput}
+use Rattle.refusals.specs.Numbers.{tooShort, badVersion, tooMany, badLength, badKind}
+use Rattle.refusals.specs.Numbers.{badRotor, badOffset, badEnd, shortOutput}
 use Rattle.entries.specs.declared.refusal.Refusal.{Refusal}
-use Rattle.entries.specs.declared.refusal.Refusal.the-variants.{TooShort, BadVersion, TooMany, BadLength, BadKind, BadRotor, BadOffset, BadEnd, ShortOutput}
+use Rattle.entries.specs.declared.refusal.Refusal.the-variants.{TooShort, BadVersion, TooMany, BadLength, BadKind}
+use Rattle.entries.specs.declared.refusal.Refusal.the-variants.{BadRotor, BadOffset, BadEnd, ShortOutput}
 
-abbrev pub numberOf : Refusal → ℕ
-numberOf TooShort = tooShort
-numberOf BadVersion = badVersion
-numberOf TooMany = tooMany
-numberOf BadLength = badLength
-numberOf BadKind = badKind
-numberOf BadRotor = badRotor
-numberOf BadOffset = badOffset
-numberOf BadEnd = badEnd
-numberOf ShortOutput = shortOutput
+abbrev pub refusalNumber : Refusal → ℕ
+refusalNumber TooShort = tooShort
+refusalNumber BadVersion = badVersion
+refusalNumber TooMany = tooMany
+refusalNumber BadLength = badLength
+refusalNumber BadKind = badKind
+refusalNumber BadRotor = badRotor
+refusalNumber BadOffset = badOffset
+refusalNumber BadEnd = badEnd
+refusalNumber ShortOutput = shortOutput

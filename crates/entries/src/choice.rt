@@ -1,4 +1,5 @@
-// What the kind and the rotor byte of an entry choose: which of the five commands it is, or the refusal. None of the entry's numbers is read for it.
+// What the kind and the rotor byte of an entry choose: which of the five commands it is, or the refusal. None of the
+// entry's numbers is read for it.
 ghost use Prim.Native.Nat.{_<_};
 ghost use Rattle.entries.specs.Choice.{ChosenBy};
 use crate::refusal::Refusal;

@@ -86,7 +86,8 @@ fn with_numbers(case: Case, thrust: f32, roll: f32, pitch: f32, yaw: f32, floor:
     }
 }
 
-// The command of entry i, which its kind and rotor byte chose: the numbers are those of the body at its offset. Whether the offset is the right one is not asked here.
+// The command of entry i, which its kind and rotor byte chose: the numbers are those of the body at its offset. Whether
+// the offset is the right one is not asked here.
 pub fn read_command(sheet: &[u8], i: u8, case: Case) -> Command
     ensures { λ c. ⌜ c ≡ commandWith (now (sheet .entry)) i case ⌝ }
 {

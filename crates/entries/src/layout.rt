@@ -1,6 +1,8 @@
-// Where the numbers of a sheet stand: version, count and length first, then four bytes for each entry, then the bodies. Entry numbers are bytes, as the count is.
+// Where the numbers of a sheet stand: version, count and length first, then four bytes for each entry, then the bodies.
+// Entry numbers are bytes, as the count is.
 ghost use mathlib.Core.Path.{_≡_};
-ghost use Rattle.entries.specs.Layout.{versionOf, countOf, lengthField, entryAt, kindOf, rotorOf, offsetOf, bodySize, numberIn};
+ghost use Rattle.entries.specs.Layout.{versionOf, countOf, lengthField, entryAt, kindOf};
+ghost use Rattle.entries.specs.Layout.{rotorOf, offsetOf, bodySize, numberIn};
 use bits::float_of;
 use wire::byte;
 use wire::read_u16;

@@ -1,6 +1,6 @@
 // Why a sheet is refused.
 ghost use mathlib.Core.Path.{_≡_};
-ghost use Rattle.entries.specs.Refusal.{numberOf};
+ghost use Rattle.entries.specs.Refusal.{refusalNumber};
 
 // One case for each of document 01's numbers 1 to 9.
 pub enum Refusal {
@@ -17,7 +17,7 @@ pub enum Refusal {
 
 // Document 01's number.
 pub fn number(r: Refusal) -> u8
-    ensures { λ n. ⌜ n ≡ numberOf r ⌝ }
+    ensures { λ n. ⌜ n ≡ refusalNumber r ⌝ }
 {
     match r {
         Refusal::TooShort => 1,

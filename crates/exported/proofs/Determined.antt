@@ -1,5 +1,6 @@
--- Each exported function's contract determines what it answers and all that it writes: two results that satisfy it are one, by bits. Those of the quad are the
--- contracts of `lent::floats`, over what is lent, and are determined there. Assumes nothing.
+-- Each exported function's contract determines what it answers and all that it writes: two results that satisfy it are
+-- one, by bits. Those of the quad are the contracts of `lent::floats`, over what is lent, and are determined there.
+-- Assumes nothing.
 use mathlib.Core.Path.{_≡_, sym, ap, _∙_}
 use mathlib.Core.List.{List}
 use Prim.Native.Nat.{ℕ}
@@ -11,12 +12,12 @@ use Rattle.rules.specs.Rows.{Row, quadRows, quadXRows, runOf, rowsOf, hexRows, 
 use Rattle.rules.specs.Torque.{torqueOf, achieved}
 use Rattle.general.proofs.Determined.{Determined, equal-determined}
 use Rattle.frame.specs.declared.MixerN.{MixerN}
-use Rattle.frame.specs.Mixer.{made, Mixed}
+use Rattle.frame.specs.Mixer.{made, FrameMixed}
 use Rattle.frame.proofs.Determined as frame-determined
-use Rattle.multi.specs.Wrench.{numberOf, Allocated}
+use Rattle.multi.specs.Wrench.{mixNumber, Allocated}
 use Rattle.multi.proofs.Determined as multi-determined
-use Rattle.multi_thrust_floor.specs.declared.Answer.{Answer as FloorAnswer}
-use Rattle.multi_thrust_floor.specs.Floored as Floored
+use Rattle.multi_thrust_floor.specs.declared.FloorAnswer.{FloorAnswer}
+use Rattle.multi_thrust_floor.specs.Floored.{floorNumber, Floored}
 use Rattle.multi_thrust_floor.proofs.Determined as floor-determined
 use Rattle.sheet.specs.Table.{judged, toldBy}
 use Rattle.bodies.specs.Body.{handedBack, handedAt}
@@ -25,7 +26,7 @@ use Rattle.exported.specs.Passed.{passed, wrench, told, Numbered, stored
 
 -- two numbers that are told alike are the same
 same-told : (n m i j : ℕ) → told n i ≡ told m j → (n ≡ m) × (i ≡ j)
-same-told n m i j e = (ap (λ (t : Told). t .number) e, ap (λ (t : Told). t .entry) e)
+same-told n m i j e = (ap (λ (t : Told). t .number) e, ap (λ (t : Told). t .ofEntry) e)
 
 -- ---- the quad
 
@@ -34,20 +35,24 @@ motors-to-torque-signs-determined motors = equal-determined
 
 -- ---- `MixerN`: the count that is answered, and the matrix
 
-passed-determined : (mixer : MixerN) (n m : ℕ) (mix other : List Float) → passed mix n ≡ mixer → passed other m ≡ mixer → (n ≡ m) × (mix ≡ other)
-passed-determined mixer n m mix other h k = let e = h ∙ sym k in (ap (λ (x : MixerN). x .n) e, ap (λ (x : MixerN). x .mix) e)
+passed-determined : (mixer : MixerN) (n m : ℕ) (mix other : List Float) → passed mix n ≡ mixer
+    → passed other m ≡ mixer → (n ≡ m) × (mix ≡ other)
+passed-determined mixer n m mix other h k =
+    let e = h ∙ sym k in (ap (λ (x : MixerN). x .n) e, ap (λ (x : MixerN). x .mix) e)
 
 module _ (rows torque motors : List Float) (thrust : Float) (count n m : ℕ) (mix other : List Float) where
-  pub mixer-n-new-determined : passed mix n ≡ made rows count → passed other m ≡ made rows count → (n ≡ m) × (mix ≡ other)
+  pub mixer-n-new-determined : passed mix n ≡ made rows count → passed other m ≡ made rows count
+      → (n ≡ m) × (mix ≡ other)
   mixer-n-new-determined = passed-determined (made rows count) n m mix other
 
   pub mixer-n-n-determined : Determined (λ r. r ≡ passed mix n .n)
   mixer-n-n-determined = equal-determined
 
-  pub mixer-n-quad-x-determined : passed mix n ≡ made (runOf quadXRows) 4 → passed other m ≡ made (runOf quadXRows) 4 → (n ≡ m) × (mix ≡ other)
+  pub mixer-n-quad-x-determined : passed mix n ≡ made (runOf quadXRows) 4 → passed other m ≡ made (runOf quadXRows) 4
+      → (n ≡ m) × (mix ≡ other)
   mixer-n-quad-x-determined = passed-determined (made (runOf quadXRows) 4) n m mix other
 
-  pub mixer-n-mix-determined : Determined (Mixed (rowsOf mix) torque thrust)
+  pub mixer-n-mix-determined : Determined (FrameMixed (rowsOf mix) torque thrust)
   mixer-n-mix-determined = frame-determined.mix-determined mix torque motors thrust n (passed mix n)
 
   pub mixer-n-achieved-wrench-determined : Determined (λ w. w ≡ achieved (rowsOf mix) motors)
@@ -60,10 +65,13 @@ module _ (x : Float) (run w before : List Float) where
   clamp01-determined = equal-determined
 
   -- the number, and what the outputs are afterwards
-  pub mixer-mix-determined : (n m : ℕ) (after other : List Float) → Numbered run (wrench w) before n after → Numbered run (wrench w) before m other → (n ≡ m) × (after ≡ other)
+  pub mixer-mix-determined : (n m : ℕ) (after other : List Float) → Numbered run (wrench w) before n after
+      → Numbered run (wrench w) before m other → (n ≡ m) × (after ≡ other)
   mixer-mix-determined n m after other h k =
-      let one = multi-determined.mix-determined x run before (wrench w) (h .answer) (k .answer) after other (h .mixed) (k .mixed) in
-      (h .number-is ∙ ap numberOf (one .0) ∙ sym (k .number-is), one .1)
+      let one =
+      multi-determined.mix-determined x run before (wrench w) (h .answer) (k .answer) after other
+      (h .mixed) (k .mixed) in
+      (h .number-is ∙ ap mixNumber (one .0) ∙ sym (k .number-is), one .1)
 
   pub hex-x-determined : Determined (λ rows. rows ≡ runOf hexRows)
   hex-x-determined = equal-determined
@@ -86,16 +94,18 @@ module _ (run w before : List Float) (floor held : Float) where
       → FlooredAs run (wrench w) floor before held m other stood
       → (n ≡ m) × (after ≡ other) × (scale ≡ stood)
   mixer-mix-thrust-floor-determined n m after other scale stood h k =
-      let one = floor-determined.mix-determined (wrench w) floor run before (h .answer) (k .answer) after other (h .mixed) (k .mixed) in (
-        h .number-is ∙ ap Floored.numberOf (one .0) ∙ sym (k .number-is),
+      let one =
+      floor-determined.mix-determined (wrench w) floor run before (h .answer) (k .answer) after other (h .mixed)
+      (k .mixed) in (
+        h .number-is ∙ ap floorNumber (one .0) ∙ sym (k .number-is),
         one .1,
         h .scale-is ∙ ap (λ (answer : FloorAnswer). stored answer held) (one .0) ∙ sym (k .scale-is),
       )
 
   -- the motors, and the scale that is answered
   pub mix-thrust-floor-determined : (rows : List Row) (motors others : List Float) (scale other : Float)
-      → Floored.Floored rows (wrench w) floor motors scale
-      → Floored.Floored rows (wrench w) floor others other
+      → Floored rows (wrench w) floor motors scale
+      → Floored rows (wrench w) floor others other
       → (motors ≡ others) × (scale ≡ other)
   mix-thrust-floor-determined rows = floor-determined.floored-determined rows (wrench w) floor
 
@@ -118,6 +128,7 @@ module _ (s : List ℕ) (n m i j : ℕ) where
       → RanAs s before out m j other put
       → (n ≡ m) × (i ≡ j) × (after ≡ other) × (written ≡ put)
   sheet-run-determined before out after other written put h k =
-      let one = run-floats-determined s before out (h .verdict) (k .verdict) after other written put (h .ran) (k .ran) in
+      let one =
+      run-floats-determined s before out (h .verdict) (k .verdict) after other written put (h .ran) (k .ran) in
       let numbers = same-told n m i j (h .told-is ∙ ap toldBy (one .0) ∙ sym (k .told-is)) in
       (numbers .0, numbers .1, one .1, one .2)

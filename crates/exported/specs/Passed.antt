@@ -7,11 +7,11 @@ use lib.Ieee.{Float, nan}
 use Rattle.refusals.specs.Told.{Told}
 use Rattle.frame.specs.declared.MixerN.{MixerN}
 use Rattle.multi.specs.declared.Wrench.{Wrench}
-use Rattle.multi.specs.declared.Answer.{Answer}
-use Rattle.multi.specs.Wrench.{numberOf, Mixed}
-use Rattle.multi_thrust_floor.specs.declared.Answer.{Answer as FloorAnswer}
-use Rattle.multi_thrust_floor.specs.declared.Answer.the-variants.{Mixed as mixed, Refused as refused}
-use Rattle.multi_thrust_floor.specs.Floored as Floored
+use Rattle.multi.specs.declared.MixAnswer.{MixAnswer}
+use Rattle.multi.specs.Wrench.{mixNumber, RowsMixed}
+use Rattle.multi_thrust_floor.specs.declared.FloorAnswer.{FloorAnswer}
+use Rattle.multi_thrust_floor.specs.declared.FloorAnswer.the-variants.{Mixed as mixed, Refused as refused}
+use Rattle.multi_thrust_floor.specs.Floored.{floorNumber, RowsFloored}
 use Rattle.sheet.specs.declared.Verdict.{Verdict}
 use Rattle.sheet.specs.Table.{toldBy}
 use Rattle.sheet_run.specs.Run.{Ran}
@@ -27,28 +27,33 @@ wrench v = record { thrust = getD v 0 nan; roll = getD v 1 nan; pitch = getD v 2
 
 -- what a sheet is told, as document 01's number and the entry number
 abbrev pub told : ℕ → ℕ → Told
-told number entry = record { number = number; entry = entry }
+told number i = record { number = number; ofEntry = i }
 
 -- `multi::mix`, whose answer passes as document 01's number
-pub record Numbered (run : List Float) (w : Wrench) (before : List Float) (number : ℕ) (after : List Float) : Type 0 where
-  pub answer : Answer
-  pub number-is : number ≡ numberOf answer
-  pub mixed : Mixed run w before answer after
+pub record Numbered (run : List Float) (w : Wrench) (before : List Float) (number : ℕ) (after : List Float)
+    : Type 0 where
+  pub answer : MixAnswer
+  pub number-is : number ≡ mixNumber answer
+  pub mixed : RowsMixed run w before answer after
 
--- what is stored for a scale by `multi_thrust_floor::mix`: the one that comes with the answer, or what was held where none does
+-- what is stored for a scale by `multi_thrust_floor::mix`: the one that comes with the answer, or what was held where
+-- none does
 abbrev pub stored : FloorAnswer → Float → Float
 stored (mixed s) held = s
 stored refused held = held
 
 -- `multi_thrust_floor::mix`, whose answer passes as document 01's number and the scale
-pub record FlooredAs (run : List Float) (w : Wrench) (floor : Float) (before : List Float) (held : Float) (number : ℕ) (after : List Float) (scale : Float) : Type 0 where
+pub record FlooredAs (run : List Float) (w : Wrench) (floor : Float) (before : List Float) (held : Float)
+    (number : ℕ) (after : List Float) (scale : Float) : Type 0 where
   pub answer : FloorAnswer
-  pub number-is : number ≡ Floored.numberOf answer
+  pub number-is : number ≡ floorNumber answer
   pub scale-is : scale ≡ stored answer held
-  pub mixed : Floored.Mixed run w floor before answer after
+  pub mixed : RowsFloored run w floor before answer after
 
--- a run of a sheet from the state that five floats are, whose verdict passes as its two numbers and whose state as its five floats
-pub record RanAs (s : List ℕ) (before : List Float) (out : List ℕ) (number : ℕ) (entry : ℕ) (after : List Float) (written : List ℕ) : Type 0 where
+-- a run of a sheet from the state that five floats are, whose verdict passes as its two numbers and whose state as its
+-- five floats
+pub record RanAs (s : List ℕ) (before : List Float) (out : List ℕ)
+    (number i : ℕ) (after : List Float) (written : List ℕ) : Type 0 where
   pub verdict : Verdict
-  pub told-is : told number entry ≡ toldBy verdict
+  pub told-is : told number i ≡ toldBy verdict
   pub ran : FloatsOf (λ q. Ran s (mixer before) out verdict q written) after

@@ -1,4 +1,5 @@
-// The command sheet, exported to C. What a sheet is told passes as document 01's number, 0 where it is accepted, and the entry number, which is stored.
+// The command sheet, exported to C. What a sheet is told passes as document 01's number, 0 where it is accepted, and
+// the entry number, which is stored.
 use entries::refusal::number;
 use lent::floats;
 use sheet::Verdict;
@@ -20,7 +21,7 @@ fn number_of(v: Verdict) -> u32
 
 // The number of the entry that it comes with.
 fn entry_of(v: Verdict) -> u32
-    ensures { λ r. ⌜ r ≡ toldBy v .entry ⌝ }
+    ensures { λ r. ⌜ r ≡ toldBy v .ofEntry ⌝ }
 {
     match v {
         Verdict::Accepted => 0,
@@ -29,18 +30,20 @@ fn entry_of(v: Verdict) -> u32
 }
 
 #[no_mangle]
-pub extern "C" fn footspandle_sheet_check(sheet: &[u8], entry: &mut u32) -> u32
-    ensures { λ r. ⌜ told r (now (entry .exit)) ≡ judged (now (sheet .entry)) ⌝ }
+pub extern "C" fn footspandle_sheet_check(sheet: &[u8], entry_number: &mut u32) -> u32
+    ensures { λ r. ⌜ told r (now («entry_number» .exit)) ≡ judged (now (sheet .entry)) ⌝ }
 {
     let verdict = sheet::check(sheet);
-    *entry = entry_of(verdict);
+    *entry_number = entry_of(verdict);
     number_of(verdict)
 }
 
 // The length of entry i's body, and at `at` where in the sheet it begins; 0 and 0 where the part is empty.
 #[no_mangle]
 pub extern "C" fn footspandle_sheet_body(sheet: &[u8], i: usize, at: &mut usize) -> usize
-    ensures { λ r. ⌜ (r ≡ length (handedBack (now (sheet .entry)) i)) × (now (at .exit) ≡ handedAt (now (sheet .entry)) i) ⌝ }
+    ensures { λ r. ⌜
+        (r ≡ length (handedBack (now (sheet .entry)) i)) × (now (at .exit) ≡ handedAt (now (sheet .entry)) i)
+        ⌝ }
 {
     let place = bodies::place(sheet, i);
     *at = place.at;
@@ -52,11 +55,14 @@ pub extern "C" fn footspandle_sheet_run(
     sheet: &[u8],
     state: &mut [f32; 5],
     out: &mut [u8],
-    entry: &mut u32,
+    entry_number: &mut u32,
 ) -> u32
-    ensures { λ r. ⌜ RanAs (now (sheet .entry)) (now (state .entry)) (now (out .entry)) r (now (entry .exit)) (now (state .exit)) (now (out .exit)) ⌝ }
+    ensures { λ r. ⌜
+        RanAs (now (sheet .entry)) (now (state .entry)) (now (out .entry))
+        r (now («entry_number» .exit)) (now (state .exit)) (now (out .exit))
+        ⌝ }
 {
     let verdict = floats::run(sheet, state, out);
-    *entry = entry_of(verdict);
+    *entry_number = entry_of(verdict);
     number_of(verdict)
 }

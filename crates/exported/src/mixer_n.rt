@@ -1,10 +1,10 @@
-// `MixerN`, exported to C. A mixer is lent as its 32 floats, eight rows of thrust, roll, pitch and yaw, and passes with its count, which is
-// what the two that make a mixer answer.
+// `MixerN`, exported to C. A mixer is lent as its 32 floats, eight rows of thrust, roll, pitch and yaw, and passes with
+// its count, which is what the two that make a mixer answer.
 use frame::MixerN;
 ghost use mathlib.Core.Path.{_≡_};
 ghost use Rattle.rules.specs.Rows.{rowsOf, runOf, quadXRows};
 ghost use Rattle.rules.specs.Torque.{achieved};
-ghost use Rattle.frame.specs.Mixer.{made, Mixed};
+ghost use Rattle.frame.specs.Mixer.{made, FrameMixed};
 ghost use Rattle.exported.specs.Passed.{passed};
 
 // The count, and the matrix at `mix`.
@@ -47,7 +47,7 @@ pub extern "C" fn footspandle_mixer_n_mix(
     thrust: f32,
     motors: &mut [f32; 8],
 )
-    ensures { λ _. ⌜ Mixed (rowsOf (now (mix .entry))) (now («torque_body» .entry)) thrust (now (motors .exit)) ⌝ }
+    ensures { λ _. ⌜ FrameMixed (rowsOf (now (mix .entry))) (now («torque_body» .entry)) thrust (now (motors .exit)) ⌝ }
 {
     let matrix = *mix;
     let torque = *torque_body;

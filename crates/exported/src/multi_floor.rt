@@ -1,6 +1,6 @@
 // Thrust-floor by lent rows, exported to C. A wrench is lent as its four floats: thrust, roll, pitch, yaw.
 use crate::multi_mixer::wrench;
-use multi_thrust_floor::Answer;
+use multi_thrust_floor::FloorAnswer;
 use multi_thrust_floor::mix;
 use multi_thrust_floor::mix_hex_x;
 use multi_thrust_floor::mix_octo_coax;
@@ -17,14 +17,17 @@ pub extern "C" fn footspandle_mixer_mix_thrust_floor(
     out: &mut [f32],
     scale: &mut f32,
 ) -> u32
-    ensures { λ r. ⌜ FlooredAs (now (rows .entry)) (wrench (now (w .entry))) floor (now (out .entry)) (now (scale .entry)) r (now (out .exit)) (now (scale .exit)) ⌝ }
+    ensures { λ r. ⌜
+        FlooredAs (now (rows .entry)) (wrench (now (w .entry))) floor (now (out .entry)) (now (scale .entry))
+        r (now (out .exit)) (now (scale .exit))
+        ⌝ }
 {
     match mix(rows, wrench(w), floor, out) {
-        Answer::Mixed(s) => {
+        FloorAnswer::Mixed(s) => {
             *scale = s;
             0
         }
-        Answer::Refused => 10,
+        FloorAnswer::Refused => 10,
     }
 }
 

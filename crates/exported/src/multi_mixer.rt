@@ -1,10 +1,10 @@
 // 001's mixes, exported to C. A wrench is lent as its four floats: thrust, roll, pitch, yaw.
-use multi::Answer;
+use multi::MixAnswer;
 use multi::Wrench;
 ghost use mathlib.Core.Path.{_≡_};
 ghost use Rattle.number.specs.Treat.{unitClamp};
 ghost use Rattle.rules.specs.Rows.{runOf, hexRows, octoRows};
-ghost use Rattle.multi.specs.Wrench.{numberOf, Allocated};
+ghost use Rattle.multi.specs.Wrench.{mixNumber, Allocated};
 ghost use Rattle.exported.specs.Passed.{wrench, Numbered};
 
 // The wrench that four floats are.
@@ -20,12 +20,12 @@ pub(crate) fn wrench(w: &[f32; 4]) -> Wrench
 }
 
 // Document 01's number.
-fn number(answer: Answer) -> u32
-    ensures { λ r. ⌜ r ≡ numberOf answer ⌝ }
+fn number(answer: MixAnswer) -> u32
+    ensures { λ r. ⌜ r ≡ mixNumber answer ⌝ }
 {
     match answer {
-        Answer::Mixed => 0,
-        Answer::Refused => 10,
+        MixAnswer::Mixed => 0,
+        MixAnswer::Refused => 10,
     }
 }
 

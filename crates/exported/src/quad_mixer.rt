@@ -1,4 +1,5 @@
-// The quad, exported to C. A state is lent as its five floats, the four motors and then the recorded scale; what a mix answers is what stands in its motors afterwards.
+// The quad, exported to C. A state is lent as its five floats, the four motors and then the recorded scale; what a mix
+// answers is what stands in its motors afterwards.
 use lent::floats;
 ghost use mathlib.Core.Path.{_≡_};
 ghost use Rattle.rules.specs.Rows.{quadRows};
@@ -30,7 +31,9 @@ pub extern "C" fn footspandle_quad_last_torque_scale(state: &[f32; 5]) -> f32
 
 #[no_mangle]
 pub extern "C" fn footspandle_quad_mix(state: &mut [f32; 5], torque_body: &[f32; 3], thrust: f32)
-    ensures { λ _. ⌜ FloatsOf (PlainGives (mixer (now (state .entry))) (now («torque_body» .entry)) thrust) (now (state .exit)) ⌝ }
+    ensures { λ _. ⌜
+        FloatsOf (PlainGives (mixer (now (state .entry))) (now («torque_body» .entry)) thrust) (now (state .exit))
+        ⌝ }
 {
     let torque = *torque_body;
     floats::mix(state, torque, thrust);
@@ -43,7 +46,10 @@ pub extern "C" fn footspandle_quad_mix_thrust_floor(
     thrust: f32,
     floor: f32,
 )
-    ensures { λ _. ⌜ FloatsOf (ThrustFloorGives (mixer (now (state .entry))) (now («torque_body» .entry)) thrust floor) (now (state .exit)) ⌝ }
+    ensures { λ _. ⌜
+        FloatsOf (ThrustFloorGives (mixer (now (state .entry))) (now («torque_body» .entry)) thrust floor)
+        (now (state .exit))
+        ⌝ }
 {
     let torque = *torque_body;
     floats::mix_thrust_floor(state, torque, thrust, floor);
@@ -56,7 +62,10 @@ pub extern "C" fn footspandle_quad_mix_priority(
     thrust: f32,
     floor: f32,
 )
-    ensures { λ _. ⌜ FloatsOf (PriorityGives (mixer (now (state .entry))) (now («torque_body» .entry)) thrust floor) (now (state .exit)) ⌝ }
+    ensures { λ _. ⌜
+        FloatsOf (PriorityGives (mixer (now (state .entry))) (now («torque_body» .entry)) thrust floor)
+        (now (state .exit))
+        ⌝ }
 {
     let torque = *torque_body;
     floats::mix_priority(state, torque, thrust, floor);
@@ -69,7 +78,10 @@ pub extern "C" fn footspandle_quad_mix_airmode(
     thrust: f32,
     idle: f32,
 )
-    ensures { λ _. ⌜ FloatsOf (AirmodeGives (mixer (now (state .entry))) (now («torque_body» .entry)) thrust idle) (now (state .exit)) ⌝ }
+    ensures { λ _. ⌜
+        FloatsOf (AirmodeGives (mixer (now (state .entry))) (now («torque_body» .entry)) thrust idle)
+        (now (state .exit))
+        ⌝ }
 {
     let torque = *torque_body;
     floats::mix_airmode(state, torque, thrust, idle);
@@ -83,7 +95,10 @@ pub extern "C" fn footspandle_quad_mix_rotor_out(
     thrust: f32,
     floor: f32,
 )
-    ensures { λ _. ⌜ FloatsOf (RotorOutGives (mixer (now (state .entry))) failed (now («torque_body» .entry)) thrust floor) (now (state .exit)) ⌝ }
+    ensures { λ _. ⌜
+        FloatsOf (RotorOutGives (mixer (now (state .entry))) failed (now («torque_body» .entry)) thrust floor)
+        (now (state .exit))
+        ⌝ }
 {
     let torque = *torque_body;
     floats::mix_rotor_out(state, failed, torque, thrust, floor);

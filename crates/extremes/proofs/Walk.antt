@@ -1,5 +1,5 @@
--- The walk from a place on, whichever numbers it holds on to: it starts past the first, one step takes the number that stands there, and past the last nothing is
--- left to do. Assumes nothing.
+-- The walk from a place on, whichever numbers it holds on to: it starts past the first, one step takes the number that
+-- stands there, and past the last nothing is left to do. Assumes nothing.
 use mathlib.Core.Path.{_≡_, refl}
 use mathlib.Core.List.{List, [], _∷_}
 use Prim.Native.Nat.{ℕ, _+_, _≤_, _<_}

@@ -1,5 +1,5 @@
-// The largest and the least of some numbers. Follows the loops that relay-mix-quad's mixes have for them (Apache-2.0, see NOTICE); changed: written in Rattle with
-// contracts, as functions of their own over any count.
+// The largest and the least of some numbers. Follows the loops that relay-mix-quad's mixes have for them (Apache-2.0,
+// see NOTICE); changed: written in Rattle with contracts, as functions of their own over any count.
 use number::pick;
 ghost use mathlib.Core.Path.{_≡_};
 ghost use mathlib.Core.Bool.{cond};

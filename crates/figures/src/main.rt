@@ -1,7 +1,8 @@
-// Runs the bench figures of document 01. It prints a line a command: the figure's number, the mix, then the motors, floats as eight lower-case hex digits of
-// their bits. On the quad, 1 to 13, each command is from a fresh state, and after the four motors stands the recorded scale; of `quad_x` the first four motors
-// are shown, as the document has them, and in figure 15 all eight. Last come the lines of the document's three command sheets. The file stdout has what the
-// document says they all are.
+// Runs the bench figures of document 01. It prints a line a command: the figure's number, the mix, then the motors,
+// floats as eight lower-case hex digits of their bits. On the quad, 1 to 13, each command is from a fresh state, and
+// after the four motors stands the recorded scale; of `quad_x` the first four motors are shown, as the document has
+// them, and in figure 15 all eight. Last come the lines of the document's three command sheets. The file stdout has
+// what the document says they all are.
 mod show;
 mod three_sheets;
 

@@ -1,5 +1,5 @@
-// Document 01's three sheets through the call that `mixrun` makes: one thrust-floor entry, no entries, for which nothing is printed, and 65 entries, which is
-// refused.
+// Document 01's three sheets through the call that `mixrun` makes: one thrust-floor entry, no entries, for which
+// nothing is printed, and 65 entries, which is refused.
 use libc::STDOUT_FILENO;
 use lines::TEXT;
 use report::text_of;

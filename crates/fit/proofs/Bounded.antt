@@ -1,5 +1,6 @@
--- The fit scale lies in 0..1, whatever the bases, the deltas and the floor are: the walk starts at 1 and only ever takes something smaller, which is no
--- NaN since it was found smaller, and its end turns what is under 0 or not finite into +0. Assumes nothing.
+-- The fit scale lies in 0..1, whatever the bases, the deltas and the floor are: the walk starts at 1 and only ever
+-- takes something smaller, which is no NaN since it was found smaller, and its end turns what is under 0 or not finite
+-- into +0. Assumes nothing.
 use mathlib.Core.Path.{_≡_, refl, sym}
 use mathlib.Core.Bool.{Bool, true, false, true≢false, not, _&&_, _||_, cond}
 use mathlib.Core.List.{List, [], _∷_}
@@ -25,7 +26,9 @@ one-held = record { number = one-number; most = le-refl one-number }
 
 limit-fits : (floor b d : Float) → T (fits binary32 (motorLimit floor b d))
 unfolding motorLimit
-limit-fits floor b d = cond-fits binary32 (lt small d) ((1f -f b) /f d) ((b -f floor) /f neg d) (div-fits binary32 (1f -f b) d) (div-fits binary32 (b -f floor) (neg d))
+limit-fits floor b d =
+    cond-fits binary32 (lt small d) ((1f -f b) /f d) ((b -f floor) /f neg d) (div-fits binary32 (1f -f b) d)
+    (div-fits binary32 (b -f floor) (neg d))
 
 -- ---- the walk keeps it
 
@@ -103,4 +106,5 @@ pub scale-fits : (floor : Float) (bs ds : List Float) → T (fits binary32 (fitS
 unfolding fitScale settled
 scale-fits floor bs ds =
     let s = walk floor 1f bs ds in
-    cond-fits binary32 (lt s 0f || not (finite s)) 0f s (zero-finite .fits) (walk-held floor 1f bs ds one-held .number .fits)
+    cond-fits binary32 (lt s 0f || not (finite s)) 0f s (zero-finite .fits)
+    (walk-held floor 1f bs ds one-held .number .fits)

@@ -1,4 +1,5 @@
--- Where no motor's limit is under 1, the fit scale is 1; and the search for such a motor, from a place on. Assumes nothing.
+-- Where no motor's limit is under 1, the fit scale is 1; and the search for such a motor, from a place on. Assumes
+-- nothing.
 use mathlib.Core.Path.{_≡_, refl, sym, ap, _∙_}
 use mathlib.Core.Bool.{Bool, true, false, _||_, cond}
 use mathlib.Core.List.{List, [], _∷_}
@@ -24,12 +25,14 @@ or-none false e = e
 
 -- the motor at the place, put to what was found before it
 pub cut-next : (found : Bool) (floor : Float) (bs ds : List Float) (i : ℕ) → i < length bs → i < length ds
-    → (found || lt (limitOf floor (getD bs i nan) (getD ds i nan)) 1f) || isCut floor (drop (i + 1) bs) (drop (i + 1) ds) ≡ found || isCut floor (drop i bs) (drop i ds)
+    → (found || lt (limitOf floor (getD bs i nan) (getD ds i nan)) 1f)
+    || isCut floor (drop (i + 1) bs) (drop (i + 1) ds) ≡ found || isCut floor (drop i bs) (drop i ds)
 unfolding isCut
 cut-next true floor bs ds i p q = refl
 cut-next false floor bs ds i p q = rw (add-one, drop-cons bs i nan p, drop-cons ds i nan q)
 
-pub cut-over : (floor : Float) (bs ds : List Float) (i : ℕ) → min (length bs) (length ds) ≤ i → isCut floor (drop i bs) (drop i ds) ≡ false
+pub cut-over : (floor : Float) (bs ds : List Float) (i : ℕ) → min (length bs) (length ds) ≤ i
+    → isCut floor (drop i bs) (drop i ds) ≡ false
 unfolding isCut
 cut-over floor = past-shorter (λ bs ds. isCut floor bs ds ≡ false) (λ ds. refl) (λ b bs. refl)
 

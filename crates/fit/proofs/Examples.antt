@@ -1,5 +1,5 @@
--- The promise of `fitting` can be met: three motors whose exact sums lie in 0.25..1, one in its middle, one at its end, and one whose sum is no f32 and has to be
--- rounded. Assumes nothing.
+-- The promise of `fitting` can be met: three motors whose exact sums lie in 0.25..1, one in its middle, one at its end,
+-- and one whose sum is no f32 and has to be rounded. Assumes nothing.
 use mathlib.Core.Path.{_≡_}
 use mathlib.Core.List.{List, [], _∷_}
 use Prim.Native.Nat.{ℕ, zero, suc}
@@ -47,4 +47,6 @@ they-fit = (
 
 scale-of-example : fitScale quarter (floats bases) (floats deltas) ≡ 1f
 unfolding quarter ofBits
-scale-of-example = scale-fitting quarter (floats bases) (floats deltas) (record { fits = ofBits-fits binary32 0x3e80_0000; finite = tt }) (each-fits bases) (each-fits deltas) they-fit
+scale-of-example =
+    scale-fitting quarter (floats bases) (floats deltas)
+    (record { fits = ofBits-fits binary32 0x3e80_0000; finite = tt }) (each-fits bases) (each-fits deltas) they-fit

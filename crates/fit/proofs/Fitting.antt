@@ -1,5 +1,5 @@
--- The fit scale is exactly 1 where each base plus its delta, taken exactly, lies in floor..1: no motor's limit is then under 1, so that the walk never
--- leaves the 1 that it started from. Nothing is asked of a base alone. Assumes nothing.
+-- The fit scale is exactly 1 where each base plus its delta, taken exactly, lies in floor..1: no motor's limit is then
+-- under 1, so that the walk never leaves the 1 that it started from. Nothing is asked of a base alone. Assumes nothing.
 use mathlib.Core.Path.{_≡_, refl, ap, _∙_}
 use mathlib.Core.Bool.{Bool, true, false, _&&_, _||_, cond}
 use mathlib.Core.List.{List, [], _∷_}
@@ -43,11 +43,13 @@ under-small {d} h e =
     let n = finite-number h in
     let m = finite-number (neg-finite small-finite) in
     let less = lt-units n m e in
-    positive (finite-number (neg-finite h)) (omega (arith, small-plus, over-neg binary32 small, under-neg binary32 small, over-neg binary32 d))
+    positive (finite-number (neg-finite h))
+    (omega (arith, small-plus, over-neg binary32 small, under-neg binary32 small, over-neg binary32 d))
 
 -- ---- one motor, and all
 
-motor-fitting : (floor b d : Float) → Finite binary32 floor → T (fits binary32 b) → T (fits binary32 d) → SumWithin floor 1f b d → tightened floor 1f b d ≡ 1f
+motor-fitting : (floor b d : Float) → Finite binary32 floor → T (fits binary32 b) → T (fits binary32 d)
+    → SumWithin floor 1f b d → tightened floor 1f b d ≡ 1f
 unfolding limits motorLimit tightened
 motor-fitting floor b d hf fb fd w = go (lt small d) (lt d (neg small)) refl refl
   where
@@ -61,21 +63,25 @@ motor-fitting floor b d hf fb fd w = go (lt small d) (lt d (neg small)) refl ref
     no-limit x e = ap (λ (t : Bool). cond t x 1f) e
 
     go : (u v : Bool) → lt small d ≡ u → lt d (neg small) ≡ v
-        → cond ((u || v) && lt (cond u ((1f -f b) /f d) ((b -f floor) /f neg d)) 1f) (cond u ((1f -f b) /f d) ((b -f floor) /f neg d)) 1f ≡ 1f
+        → cond ((u || v) && lt (cond u ((1f -f b) /f d) ((b -f floor) /f neg d)) 1f)
+        (cond u ((1f -f b) /f d) ((b -f floor) /f neg d)) 1f ≡ 1f
     go true v e g =
         let room = sum-at-most w in
-        no-limit ((1f -f b) /f d) (ap (lt ((1f -f b) /f d)) one-is-unit ∙ enough-room one-finite hb hd (over-small hd e) (omega arith))
+        no-limit ((1f -f b) /f d)
+        (ap (lt ((1f -f b) /f d)) one-is-unit ∙ enough-room one-finite hb hd (over-small hd e) (omega arith))
     go false true e g =
         let room = sum-at-least w in
         no-limit ((b -f floor) /f neg d)
-        (ap (lt ((b -f floor) /f neg d)) one-is-unit ∙ enough-room hb hf (neg-finite hd) (under-small hd g) (omega (arith, over-neg binary32 d, under-neg binary32 d)))
+        (ap (lt ((b -f floor) /f neg d)) one-is-unit ∙ enough-room hb hf (neg-finite hd) (under-small hd g)
+        (omega (arith, over-neg binary32 d, under-neg binary32 d)))
     go false false e g = refl
 
 -- each of them is an f32
 abbrev Floats : List Float → Type 0
 Floats xs = (k : ℕ) → T (fits binary32 (getD xs k nan))
 
-walk-fitting : (floor : Float) (bs ds : List Float) → Finite binary32 floor → Floats bs → Floats ds → EachMotor (SumWithin floor 1f) bs ds → walk floor 1f bs ds ≡ 1f
+walk-fitting : (floor : Float) (bs ds : List Float) → Finite binary32 floor → Floats bs → Floats ds
+    → EachMotor (SumWithin floor 1f) bs ds → walk floor 1f bs ds ≡ 1f
 unfolding walk
 walk-fitting floor [] ds hf fb fd w = refl
 walk-fitting floor (b ∷ bs) [] hf fb fd w = refl

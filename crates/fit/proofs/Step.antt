@@ -1,4 +1,5 @@
--- One step of the walk as the code computes it: the limit as one quotient for both signs of a delta, and 1 where there is none. Assumes nothing.
+-- One step of the walk as the code computes it: the limit as one quotient for both signs of a delta, and 1 where there
+-- is none. Assumes nothing.
 use mathlib.Core.Path.{_≡_, refl}
 use mathlib.Core.Bool.{Bool, true, false, _&&_, _||_, cond}
 use lib.Ieee.{Float, lt, neg}
@@ -28,7 +29,8 @@ one-quotient floor b d = go (lt small d) refl
     go false e = rw (lt-minus small d)
 
 -- a limit of 1 takes the place of no scale that is at most 1
-pub limited-step : (floor s b d : Float) → lt 1f s ≡ false → cond (lt (limitOf floor b d) s) (limitOf floor b d) s ≡ tightened floor s b d
+pub limited-step : (floor s b d : Float) → lt 1f s ≡ false
+    → cond (lt (limitOf floor b d) s) (limitOf floor b d) s ≡ tightened floor s b d
 unfolding limitOf tightened
 limited-step floor s b d h = go (limits d)
   where

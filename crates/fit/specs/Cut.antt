@@ -1,5 +1,5 @@
--- What the code asks of a motor by itself, before it looks for the smallest limit. Private functions cite these; `Scaled`, which is what the fit scale is held to,
--- does not. Definitions only.
+-- What the code asks of a motor by itself, before it looks for the smallest limit. Private functions cite these;
+-- `Scaled`, which is what the fit scale is held to, does not. Definitions only.
 use mathlib.Core.Bool.{Bool, false, _||_, cond}
 use mathlib.Core.List.{List, [], _∷_}
 use lib.Ieee.{Float, lt}

@@ -1,5 +1,5 @@
--- The fit scale: the smallest of the limits that the motors put on their deltas, at most 1 (document 01, 'Treating the numbers': "Fit scale" and "Small"), over
--- any count of motors. Definitions only; the quotations are document 01's.
+-- The fit scale: the smallest of the limits that the motors put on their deltas, at most 1 (document 01, 'Treating the
+-- numbers': "Fit scale" and "Small"), over any count of motors. Definitions only; the quotations are document 01's.
 use mathlib.Core.Path.{_≡_}
 use mathlib.Core.Bool.{Bool, not, _&&_, _||_, cond}
 use mathlib.Core.List.{List, [], _∷_}
@@ -43,8 +43,8 @@ EachMotor R [] ds = Unit {0}
 EachMotor R (b ∷ bs) [] = Unit {0}
 EachMotor R (b ∷ bs) (d ∷ ds) = R b d × EachMotor R bs ds
 
--- What `scale` answers: the definition; finite and in 0..1, whatever the bases, the deltas and the floor are; and exactly 1 where the floor is finite
--- and each base plus its delta, taken exactly, lies in floor..1.
+-- What `scale` answers: the definition; finite and in 0..1, whatever the bases, the deltas and the floor are; and
+-- exactly 1 where the floor is finite and each base plus its delta, taken exactly, lies in floor..1.
 pub record Scaled (floor : Float) (bs ds : List Float) (r : Float) : Type 0 where
   pub is : r ≡ fitScale floor bs ds
   pub number : T (finite r)

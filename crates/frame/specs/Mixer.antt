@@ -17,6 +17,6 @@ abbrev pub rowsIn : MixerN → List Row
 rowsIn mixer = rowsOf (mixer .mix)
 
 -- the rule's motors, by bits, and what it promises of them
-pub record Mixed (rows : List Row) (torque : List Float) (thrust : Float) (motors : List Float) : Type 0 where
+pub record FrameMixed (rows : List Row) (torque : List Float) (thrust : Float) (motors : List Float) : Type 0 where
   pub is : motors ≡ frameMotors rows torque thrust
   pub keeps : FrameKeeps rows torque thrust motors

@@ -1,7 +1,9 @@
-// A mixer for a frame of up to eight rotors, given by its matrix: what thrust, roll, pitch and yaw each count for each rotor.
+// A mixer for a frame of up to eight rotors, given by its matrix: what thrust, roll, pitch and yaw each count for each
+// rotor.
 //
-// Follows relay-mix-quad's MixerN (Apache-2.0, see NOTICE); changed: written in Rattle with contracts; the matrix is one run of 32 floats, a row of four for each
-// rotor; a method takes the mixer by value; what is derived from geometry is left out.
+// Follows relay-mix-quad's MixerN (Apache-2.0, see NOTICE); changed: written in Rattle with contracts; the matrix is
+// one run of 32 floats, a row of four for each rotor; a method takes the mixer by value; what is derived from geometry
+// is left out.
 //
 // What the mix answers is defined in the crate `rules`, and so are the promises that its contract ends with.
 ghost use mathlib.Core.Path.{_≡_};
@@ -12,7 +14,7 @@ ghost use Rattle.number.specs.Treat.{treated};
 ghost use Rattle.rules.specs.Rows.{rowsOf, runOf, quadXRows};
 ghost use Rattle.rules.specs.Plain.{rawSums};
 ghost use Rattle.rules.specs.Torque.{achieved};
-ghost use Rattle.frame.specs.Mixer.{made, rowsIn, Mixed};
+ghost use Rattle.frame.specs.Mixer.{made, rowsIn, FrameMixed};
 use lowering::lower_and_limit;
 use number::sanitise;
 use rotors::command::raw_sum;
@@ -97,9 +99,10 @@ impl MixerN {
         MixerN { mix: QUAD_X, n: 4 }
     }
 
-    // Torque and thrust to eight motors in 0..1. Each sum is treated; where a motor would pass 1, all are lowered; what is then under 0 is cut.
+    // Torque and thrust to eight motors in 0..1. Each sum is treated; where a motor would pass 1, all are lowered; what
+    // is then under 0 is cut.
     pub fn mix(self, torque_body: [f32; 3], thrust: f32) -> [f32; MAX_ROTORS]
-        ensures { λ m. ⌜ Mixed (rowsIn self) «torque_body» thrust m ⌝ }
+        ensures { λ m. ⌜ FrameMixed (rowsIn self) «torque_body» thrust m ⌝ }
     {
         let rows = self.mix;
         let mut m = [0.0; MAX_ROTORS];
@@ -108,7 +111,8 @@ impl MixerN {
         m
     }
 
-    // The thrust, roll, pitch and yaw that eight motors give by the matrix. Motors are treated and the matrix is not, so a sum may be a NaN.
+    // The thrust, roll, pitch and yaw that eight motors give by the matrix. Motors are treated and the matrix is not,
+    // so a sum may be a NaN.
     pub fn achieved_wrench(self, motors: [f32; MAX_ROTORS]) -> [f32; 4]
         ensures { λ w. ⌜ w ≡ achieved (rowsIn self) motors ⌝ }
     {

@@ -1,4 +1,5 @@
--- What it is for a contract to determine an answer: two results that satisfy it are one, by bits. A contract that says what the answer equals does. Assumes nothing.
+-- What it is for a contract to determine an answer: two results that satisfy it are one, by bits. A contract that says
+-- what the answer equals does. Assumes nothing.
 use mathlib.Core.Path.{_≡_, sym, _∙_}
 
 abbrev pub Determined : {A : Type 0} → (A → Type 0) → Type 0

@@ -1,4 +1,5 @@
--- A list of four numbers is its four numbers, so that what is defined on lists computes on an array of four. Assumes nothing.
+-- A list of four numbers is its four numbers, so that what is defined on lists computes on an array of four. Assumes
+-- nothing.
 use mathlib.Core.Path.{_≡_, refl}
 use mathlib.Core.List.{List, [], _∷_}
 use native.Mathlib.Omega.{arith}

@@ -1,5 +1,5 @@
--- Lists: what holds of each, through a map; what stands at a place of a list, and of a mapped one; and the first part of a
--- mapped list. Assumes nothing.
+-- Lists: what holds of each, through a map; what stands at a place of a list, and of a mapped one; and the first part
+-- of a mapped list. Assumes nothing.
 use mathlib.Core.Path.{_≡_, refl, ap₂}
 use mathlib.Core.Bool.{not}
 use mathlib.Core.List.{List, [], _∷_, _++_, map}
@@ -26,11 +26,13 @@ module _ {A : Type 0} where
 
   -- where P holds of each, what P gives of one holds of each: of a mapped value, and of two that are equal
   module _ (P : A → Type 0) where
-    pub each-map : {B : Type 0} (Q : B → Type 0) (g : A → B) → ((a : A) → P a → Q (g a)) → (l : List A) → Each P l → Each Q (map g l)
+    pub each-map : {B : Type 0} (Q : B → Type 0) (g : A → B) → ((a : A) → P a → Q (g a)) → (l : List A) → Each P l
+        → Each Q (map g l)
     each-map Q g k [] h = tt
     each-map Q g k (a ∷ l) h = (k a (h .0), each-map Q g k l (h .1))
 
-    pub each-same : {B : Type 0} (f g : A → B) → ((a : A) → P a → f a ≡ g a) → (l : List A) → Each P l → map f l ≡ map g l
+    pub each-same : {B : Type 0} (f g : A → B) → ((a : A) → P a → f a ≡ g a) → (l : List A) → Each P l
+        → map f l ≡ map g l
     each-same f g k [] h = refl
     each-same f g k (a ∷ l) h = ap₂ _∷_ (k a (h .0)) (each-same f g k l (h .1))
 
@@ -41,7 +43,8 @@ module _ {A : Type 0} where
   each-at P d (a ∷ l) h zero s = h .0
   each-at P d (a ∷ l) h (suc i) s = each-at P d l (h .1) i (omega arith)
 
-  pub map-at : {B : Type 0} (g : A → B) (d : A) (e : B) (l : List A) (i : ℕ) → i < length l → getD (map g l) i e ≡ g (getD l i d)
+  pub map-at : {B : Type 0} (g : A → B) (d : A) (e : B) (l : List A) (i : ℕ) → i < length l
+      → getD (map g l) i e ≡ g (getD l i d)
   map-at g d e [] i s = let no : ⊥ = omega arith in absurd no
   map-at g d e (a ∷ l) zero s = refl
   map-at g d e (a ∷ l) (suc i) s = map-at g d e l i (omega arith)
@@ -52,7 +55,8 @@ module _ {A : Type 0} where
   take-mapped g (a ∷ l) m = ap₂ _∷_ refl (take-mapped g l m)
 
   -- at every index stands a number that fits, a NaN past the end
-  pub map-fits : (g : A → Float) → ((a : A) → T (fits binary32 (g a))) → (l : List A) (k : ℕ) → T (fits binary32 (getD (map g l) k nan))
+  pub map-fits : (g : A → Float) → ((a : A) → T (fits binary32 (g a))) → (l : List A) (k : ℕ)
+      → T (fits binary32 (getD (map g l) k nan))
   map-fits g h [] k = nan-fits binary32
   map-fits g h (a ∷ l) zero = h a
   map-fits g h (a ∷ l) (suc k) = map-fits g h l k

@@ -6,5 +6,6 @@ use Rattle.quad.specs.declared.QuadMixer.{QuadMixer}
 use Rattle.lent.specs.Five.{five, FloatsOf}
 
 -- five floats of a state that P holds of
-pub floats-of : {P : QuadMixer → Type 0} {floats : List Float} (q : QuadMixer) → floats ≡ five q → P q → FloatsOf P floats
+pub floats-of : {P : QuadMixer → Type 0} {floats : List Float} (q : QuadMixer) → floats ≡ five q → P q
+    → FloatsOf P floats
 floats-of q are holds = record { state = q; floats-are = are; holds = holds }

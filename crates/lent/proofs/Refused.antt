@@ -22,10 +22,13 @@ written-back (a ∷ b ∷ c ∷ []) h = let no : ⊥ = omega arith in absurd no
 written-back (a ∷ b ∷ c ∷ d ∷ []) h = let no : ⊥ = omega arith in absurd no
 written-back (a ∷ b ∷ c ∷ d ∷ e ∷ f ∷ v) h = let no : ⊥ = omega arith in absurd no
 
-pub refused-unchanged : (s : List ℕ) (before : List Float) (out : List ℕ) (v : Verdict) (after : List Float) (written : List ℕ)
+pub refused-unchanged : (s : List ℕ) (before : List Float) (out : List ℕ) (v : Verdict) (after : List Float)
+    (written : List ℕ)
     → length before ≡ 5
     → eqb (judgedFor s (length out) .number) accepted ≡ false
     → FloatsOf (λ q. Ran s (mixer before) out v q written) after
     → (after ≡ before) × (written ≡ out)
-refused-unchanged s before out v after written count refused h =
-    (h .floats-are ∙ ap five (rw refused at (h .holds .state)) ∙ written-back before count, rw refused at (h .holds .output))
+refused-unchanged s before out v after written count refused h = (
+  h .floats-are ∙ ap five (rw refused at (h .holds .state)) ∙ written-back before count,
+  rw refused at (h .holds .output),
+)

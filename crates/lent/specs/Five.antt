@@ -18,9 +18,12 @@ mixer v = state (motorsIn v) (scaleIn v)
 
 -- the five floats of a state
 abbrev pub five : QuadMixer → List Float
-five q = getD (q .«last_motors») 0 nan ∷ getD (q .«last_motors») 1 nan ∷ getD (q .«last_motors») 2 nan ∷ getD (q .«last_motors») 3 nan ∷ q .«last_torque_scale» ∷ []
+five q =
+    getD (q .«last_motors») 0 nan ∷ getD (q .«last_motors») 1 nan ∷ getD (q .«last_motors») 2 nan
+    ∷ getD (q .«last_motors») 3 nan ∷ q .«last_torque_scale» ∷ []
 
--- These are the five floats of a state that P holds of. With a contract of `quad` or `sheet_run` for P, it says of the floats what that contract says of the state.
+-- These are the five floats of a state that P holds of. With a contract of `quad` or `sheet_run` for P, it says of the
+-- floats what that contract says of the state.
 pub record FloatsOf (P : QuadMixer → Type 0) (floats : List Float) : Type 0 where
   pub state : QuadMixer
   pub floats-are : floats ≡ five state

@@ -1,11 +1,12 @@
-// The quad's state lent as the run of its five floats, the four motors and then the recorded scale: the layout of `#[repr(C)] QuadMixer`. It is updated where it
-// stands.
+// The quad's state lent as the run of its five floats, the four motors and then the recorded scale: the layout of
+// `#[repr(C)] QuadMixer`. It is updated where it stands.
 //
-// Follows relay-mix-quad's QuadMixer (Apache-2.0, see NOTICE); changed: written in Rattle with contracts; the state is a run of floats; a mix returns nothing, since the
-// motors that it answers are the first four floats afterwards.
+// Follows relay-mix-quad's QuadMixer (Apache-2.0, see NOTICE); changed: written in Rattle with contracts; the state is
+// a run of floats; a mix returns nothing, since the motors that it answers are the first four floats afterwards.
 //
-// Each mix, and the run, takes the state apart, calls the one of `quad` or `sheet_run` that does it by value, and writes the five floats back; the two readers read its floats. What is proved of those
-// stands on these too: `FloatsOf` says that the floats are those of a state that a contract of theirs holds of.
+// Each mix, and the run, takes the state apart, calls the one of `quad` or `sheet_run` that does it by value, and
+// writes the five floats back; the two readers read its floats. What is proved of those stands on these too: `FloatsOf`
+// says that the floats are those of a state that a contract of theirs holds of.
 use quad::QuadMixer;
 use sheet::Verdict;
 ghost use mathlib.Core.Path.{_≡_};
@@ -60,21 +61,27 @@ pub fn mix(state: &mut [f32; 5], torque_body: [f32; 3], thrust: f32)
 
 // Thrust-floor: see `QuadMixer::mix_thrust_floor`.
 pub fn mix_thrust_floor(state: &mut [f32; 5], torque_body: [f32; 3], thrust: f32, floor: f32)
-    ensures { λ _. ⌜ FloatsOf (ThrustFloorGives (mixer (now (state .entry))) «torque_body» thrust floor) (now (state .exit)) ⌝ }
+    ensures { λ _. ⌜
+        FloatsOf (ThrustFloorGives (mixer (now (state .entry))) «torque_body» thrust floor) (now (state .exit))
+        ⌝ }
 {
     *state = five(mixer(state).mix_thrust_floor(torque_body, thrust, floor));
 }
 
 // Priority: see `QuadMixer::mix_priority`.
 pub fn mix_priority(state: &mut [f32; 5], torque_body: [f32; 3], thrust: f32, floor: f32)
-    ensures { λ _. ⌜ FloatsOf (PriorityGives (mixer (now (state .entry))) «torque_body» thrust floor) (now (state .exit)) ⌝ }
+    ensures { λ _. ⌜
+        FloatsOf (PriorityGives (mixer (now (state .entry))) «torque_body» thrust floor) (now (state .exit))
+        ⌝ }
 {
     *state = five(mixer(state).mix_priority(torque_body, thrust, floor));
 }
 
 // Airmode: see `QuadMixer::mix_airmode`.
 pub fn mix_airmode(state: &mut [f32; 5], torque_body: [f32; 3], thrust: f32, idle: f32)
-    ensures { λ _. ⌜ FloatsOf (AirmodeGives (mixer (now (state .entry))) «torque_body» thrust idle) (now (state .exit)) ⌝ }
+    ensures { λ _. ⌜
+        FloatsOf (AirmodeGives (mixer (now (state .entry))) «torque_body» thrust idle) (now (state .exit))
+        ⌝ }
 {
     *state = five(mixer(state).mix_airmode(torque_body, thrust, idle));
 }
@@ -87,14 +94,20 @@ pub fn mix_rotor_out(
     thrust: f32,
     floor: f32,
 )
-    ensures { λ _. ⌜ FloatsOf (RotorOutGives (mixer (now (state .entry))) failed «torque_body» thrust floor) (now (state .exit)) ⌝ }
+    ensures { λ _. ⌜
+        FloatsOf (RotorOutGives (mixer (now (state .entry))) failed «torque_body» thrust floor) (now (state .exit))
+        ⌝ }
 {
     *state = five(mixer(state).mix_rotor_out(failed, torque_body, thrust, floor));
 }
 
 // Runs a sheet from the state: see `sheet_run::run`. Where the sheet is refused, state and output are as they were.
 pub fn run(sheet: &[u8], state: &mut [f32; 5], out: &mut [u8]) -> Verdict
-    ensures { λ v. ⌜ FloatsOf (λ after. Ran (now (sheet .entry)) (mixer (now (state .entry))) (now (out .entry)) v after (now (out .exit))) (now (state .exit)) ⌝ }
+    ensures { λ v. ⌜
+        FloatsOf
+        (λ after. Ran (now (sheet .entry)) (mixer (now (state .entry))) (now (out .entry)) v after (now (out .exit)))
+        (now (state .exit))
+        ⌝ }
 {
     let outcome = sheet_run::run(sheet, mixer(state), out);
     let last = outcome.state;

@@ -1,7 +1,8 @@
 // The quad's state lent: a mix updates it where it stands, and hands back the motors that it stored there.
 //
-// Follows relay-mix-quad's `&mut self` methods (Apache-2.0, see NOTICE); changed: written in Rattle with contracts; each is a thin function over the mix by
-// value. What is read of a state is read by value (`QuadMixer::last_motors`, `QuadMixer::last_torque_scale`).
+// Follows relay-mix-quad's `&mut self` methods (Apache-2.0, see NOTICE); changed: written in Rattle with contracts;
+// each is a thin function over the mix by value. What is read of a state is read by value (`QuadMixer::last_motors`,
+// `QuadMixer::last_torque_scale`).
 //
 // Each contract is that of the mix by value, promises and all, said of the state that stands there afterwards.
 pub mod floats;
@@ -70,7 +71,9 @@ pub fn mix_rotor_out(
 
 // Runs a sheet from the state, which stays as it is where the sheet is refused: see `sheet_run::run`.
 pub fn run(sheet: &[u8], q: &mut QuadMixer, out: &mut [u8]) -> Verdict
-    ensures { λ v. ⌜ Ran (now (sheet .entry)) (now (q .entry)) (now (out .entry)) v (now (q .exit)) (now (out .exit)) ⌝ }
+    ensures { λ v. ⌜
+        Ran (now (sheet .entry)) (now (q .entry)) (now (out .entry)) v (now (q .exit)) (now (out .exit))
+        ⌝ }
 {
     let before = *q;
     let outcome = sheet_run::run(sheet, before, out);

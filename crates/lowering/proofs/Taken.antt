@@ -1,4 +1,5 @@
--- The same number taken from all: what the largest has over 1, or +0, which leaves each as it is, a zero's sign too. Assumes nothing.
+-- The same number taken from all: what the largest has over 1, or +0, which leaves each as it is, a zero's sign too.
+-- Assumes nothing.
 use mathlib.Core.Path.{_≡_, refl}
 use mathlib.Core.Bool.{Bool, true, false, cond}
 use Prim.Native.Nat.{ℕ, _+_, _-_, _*_}
@@ -35,7 +36,8 @@ nothing-taken (inf s) h = refl
 nothing-taken (fin s m e) h =
     let x = fin s m e in
     let hx : Finite binary32 x = record { fits = h; finite = tt } in
-    same-rounded (by-difference (sub-rounded hx zero-finite) _ _ (omega (arith, zero-over, zero-under))) (own-rounding hx) (sign-kept x)
+    same-rounded (by-difference (sub-rounded hx zero-finite) _ _ (omega (arith, zero-over, zero-under)))
+    (own-rounding hx) (sign-kept x)
 
 pub excess-taken : (most x : Float) → T (fits binary32 x) → x -f cond (lt 1f most) (most -f 1f) 0f ≡ loweredBy most x
 unfolding loweredBy

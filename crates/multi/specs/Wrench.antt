@@ -1,4 +1,5 @@
--- What the functions of this crate answer to a wrench (document 01, 'Any airframe': "`Mixer` (001)"). Definitions only; the quotations are document 01's.
+-- What the functions of this crate answer to a wrench (document 01, 'Any airframe': "`Mixer` (001)"). Definitions only;
+-- the quotations are document 01's.
 use mathlib.Core.Path.{_≡_}
 use mathlib.Core.Bool.{cond}
 use mathlib.Core.List.{List}
@@ -10,13 +11,13 @@ use Rattle.rules.specs.Multi.{wrenchMotors, rowsRefused}
 use Rattle.refusals.specs.Numbers.{accepted, badRows}
 use Rattle.rules.specs.Promises.{InUnit}
 use Rattle.multi.specs.declared.Wrench.{Wrench}
-use Rattle.multi.specs.declared.Answer.{Answer}
-use Rattle.multi.specs.declared.Answer.the-variants.{Mixed as mixed, Refused as refused}
+use Rattle.multi.specs.declared.MixAnswer.{MixAnswer}
+use Rattle.multi.specs.declared.MixAnswer.the-variants.{Mixed as mixed, Refused as refused}
 
 -- the paper's number for each case of the answer
-abbrev pub numberOf : Answer → ℕ
-numberOf mixed = accepted
-numberOf refused = badRows
+abbrev pub mixNumber : MixAnswer → ℕ
+mixNumber mixed = accepted
+mixNumber refused = badRows
 
 abbrev pub motorsOf : Wrench → List Row → List Float
 motorsOf w rows = wrenchMotors rows (w .thrust) (w .roll) (w .pitch) (w .yaw)
@@ -26,8 +27,10 @@ pub record Allocated (rows : List Row) (w : Wrench) (motors : List Float) : Type
   pub is : motors ≡ motorsOf w rows
   pub unit : InUnit motors
 
--- `mix` of a lent run and lent outputs: number 10 and the outputs as they were, or number 0 and the motors of the run's rows
-pub record Mixed (run : List Float) (w : Wrench) (before : List Float) (answer : Answer) (after : List Float) : Type 0 where
-  pub number : numberOf answer ≡ cond (rowsRefused (length run) (length before)) badRows accepted
+-- `mix` of a lent run and lent outputs: number 10 and the outputs as they were, or number 0 and the motors of the run's
+-- rows
+pub record RowsMixed (run : List Float) (w : Wrench) (before : List Float) (answer : MixAnswer) (after : List Float)
+    : Type 0 where
+  pub number : mixNumber answer ≡ cond (rowsRefused (length run) (length before)) badRows accepted
   pub output : after ≡ cond (rowsRefused (length run) (length before)) before (motorsOf w (rowsOf run))
-  pub unit : numberOf answer ≡ accepted → InUnit after
+  pub unit : mixNumber answer ≡ accepted → InUnit after

@@ -1,7 +1,7 @@
 // Frames of any rows: a wrench in, a command for each rotor out, each clamped to 0..1 by itself.
 //
-// Follows relay-mix-multi (Apache-2.0, see NOTICE); changed: written in Rattle with contracts; rows and outputs are lent, up to 64 of them, in the place of a
-// const generic struct that holds them, and are checked where they are used.
+// Follows relay-mix-multi (Apache-2.0, see NOTICE); changed: written in Rattle with contracts; rows and outputs are
+// lent, up to 64 of them, in the place of a const generic struct that holds them, and are checked where they are used.
 mod tables;
 
 ghost use mathlib.Core.Path.{_≡_};
@@ -10,7 +10,7 @@ ghost use lib.ListN.{length};
 ghost use Rattle.number.specs.Treat.{unitClamp};
 ghost use Rattle.rules.specs.Rows.{rowsOf, runOf, hexRows, octoRows};
 ghost use Rattle.rules.specs.Multi.{rowsRefused};
-ghost use Rattle.multi.specs.Wrench.{motorsOf, Mixed, Allocated};
+ghost use Rattle.multi.specs.Wrench.{motorsOf, RowsMixed, Allocated};
 use crate::tables::HEX_X;
 use crate::tables::OCTO_COAX;
 use rotors::command::raw_sum;
@@ -26,7 +26,7 @@ pub struct Wrench {
 }
 
 // What `mix` answers.
-pub enum Answer {
+pub enum MixAnswer {
     // Number 0: the outputs are written.
     Mixed,
     // Number 10: they stay as they were.
@@ -50,7 +50,8 @@ pub fn refused(floats: usize, outputs: usize) -> bool
     outputs > MAX_OUTPUTS || floats != 4 * outputs
 }
 
-// Each output from its row. The loop's test is the one that `row_at` makes, so that the compiler leaves that out and takes four rows at once.
+// Each output from its row. The loop's test is the one that `row_at` makes, so that the compiler leaves that out and
+// takes four rows at once.
 fn allocate(rows: &[f32], w: Wrench, out: &mut [f32])
     requires { ⌜ length (now rows) ≡ 4 * length (now out) ⌝ }
     ensures { λ _. ⌜ now (out .exit) ≡ motorsOf w (rowsOf (now (rows .entry))) ⌝ }
@@ -64,16 +65,17 @@ fn allocate(rows: &[f32], w: Wrench, out: &mut [f32])
     }
 }
 
-// A wrench to the commands of the rotors, by their rows: one run of floats, four (thrust, roll, pitch, yaw) for each output. Where that is not what is lent, or
-// there are over 64 outputs, it is refused, and the outputs stay as they are.
-pub fn mix(rows: &[f32], w: Wrench, out: &mut [f32]) -> Answer
-    ensures { λ a. ⌜ Mixed (now (rows .entry)) w (now (out .entry)) a (now (out .exit)) ⌝ }
+// A wrench to the commands of the rotors, by their rows: one run of floats, four (thrust, roll, pitch, yaw) for each
+// output. Where that is not what is lent, or there are over 64 outputs, it is refused, and the outputs stay as they
+// are.
+pub fn mix(rows: &[f32], w: Wrench, out: &mut [f32]) -> MixAnswer
+    ensures { λ a. ⌜ RowsMixed (now (rows .entry)) w (now (out .entry)) a (now (out .exit)) ⌝ }
 {
     if refused(rows.len(), out.len()) {
-        return Answer::Refused;
+        return MixAnswer::Refused;
     }
     allocate(rows, w, out);
-    Answer::Mixed
+    MixAnswer::Mixed
 }
 
 // The rows of six rotors, 60 degrees apart, each spinning against its neighbours.
@@ -93,7 +95,7 @@ pub fn mix_hex_x(w: Wrench) -> [f32; 6]
     out
 }
 
-// The rows of four arms with two rotors each, one above the other, which spin against each other.
+// The rows of four arms with two rotors each, one over the other, which spin against each other.
 pub fn octo_coax() -> [f32; 32]
     ensures { λ r. ⌜ r ≡ runOf octoRows ⌝ }
 {

@@ -1,4 +1,5 @@
--- What the functions answer, put together: the promises are one law about the rule, over any rows, so they hold of whatever the rule gives. Assumes nothing.
+-- What the functions answer, put together: the promises are one law about the rule, over any rows, so they hold of
+-- whatever the rule gives. Assumes nothing.
 use mathlib.Core.Path.{_≡_, ap, _∙_}
 use mathlib.Core.Bool.{true, false}
 use mathlib.Core.List.{List, [], _∷_}
@@ -16,8 +17,8 @@ use Rattle.rules.specs.ThrustFloor.{thrustFloorScale, thrustFloorMotors}
 use Rattle.rules.proofs.Runs.{rows-count}
 use Rattle.rules.proofs.Keeps.{thrust-floor-keeps}
 use Rattle.multi.specs.declared.Wrench.{Wrench}
-use Rattle.multi_thrust_floor.specs.declared.Answer.the-variants.{Mixed as mixed, Refused as refused}
-use Rattle.multi_thrust_floor.specs.Floored.{wrenchTorque, flooredMotors, flooredScale, Floored, Mixed}
+use Rattle.multi_thrust_floor.specs.declared.FloorAnswer.the-variants.{Mixed as mixed, Refused as refused}
+use Rattle.multi_thrust_floor.specs.Floored.{wrenchTorque, flooredMotors, flooredScale, Floored, RowsFloored}
 use Rattle.multi_thrust_floor.specs.Granted.{Granted}
 
 module _ {w : Wrench} {floor : Float} {motors : List Float} {scale : Float} where
@@ -26,15 +27,21 @@ module _ {w : Wrench} {floor : Float} {motors : List Float} {scale : Float} wher
       → motors ≡ flooredMotors rows w floor
       → scale ≡ flooredScale rows w floor
       → Floored rows w floor motors scale
-  floored {rows} ft ff is scale-is = record { is = is; scale-is = scale-is; keeps = rw (is, scale-is) (thrust-floor-keeps rows (wrenchTorque w) (w .thrust) floor ft ff) }
+  floored {rows} ft ff is scale-is = record {
+    is = is;
+    scale-is = scale-is;
+    keeps = rw (is, scale-is) (thrust-floor-keeps rows (wrenchTorque w) (w .thrust) floor ft ff);
+  }
 
   -- what the two steps find: the deltas, and what is granted of them
-  pub floored-by-steps : {rows : List Row} {ds : List Float} → fits binary32 (w .thrust) ≡ true → fits binary32 floor ≡ true
+  pub floored-by-steps : {rows : List Row} {ds : List Float} → fits binary32 (w .thrust) ≡ true
+      → fits binary32 floor ≡ true
       → ds ≡ deltas rows (wrenchTorque w)
       → Granted (w .thrust) floor ds motors scale
       → Floored rows w floor motors scale
   unfolding thrustFloorScale thrustFloorMotors
-  floored-by-steps ft ff asked granted = floored (rw ft tt) (rw ff tt) (granted .is ∙ rw asked) (granted .scale-is ∙ rw asked)
+  floored-by-steps ft ff asked granted =
+      floored (rw ft tt) (rw ff tt) (granted .is ∙ rw asked) (granted .scale-is ∙ rw asked)
 
   -- by the rows of a table: a run that holds them
   pub floored-by-table : {rows : List Row} {run ds : List Float} → run ≡ runOf rows → rowsOf (runOf rows) ≡ rows
@@ -46,7 +53,8 @@ module _ {w : Wrench} {floor : Float} {motors : List Float} {scale : Float} wher
   floored-by-table table holds ft ff asked granted = floored-by-steps ft ff (asked ∙ rw (table, holds)) granted
 
 -- the deltas of a run that has four numbers for each of n outputs are as many
-pub asked-count : (run torque : List Float) (n : ℕ) {ds : List Float} → ds ≡ deltas (rowsOf run) torque → length run ≡ 4 * n → length ds ≡ n
+pub asked-count : (run torque : List Float) (n : ℕ) {ds : List Float} → ds ≡ deltas (rowsOf run) torque
+    → length run ≡ 4 * n → length ds ≡ n
 unfolding deltas
 asked-count run torque n asked four-each = ap length asked ∙ length-map (rowsOf run) _ ∙ rows-count n run four-each
 
@@ -58,11 +66,17 @@ one-scale : {s t : Float} → s ∷ [] ≡ t ∷ [] → s ≡ t
 one-scale e = cc
 
 module _ {run : List Float} {w : Wrench} {floor : Float} {before : List Float} where
-  pub answer-refused : rowsRefused (length run) (length before) ≡ true → Mixed run w floor before refused before
-  answer-refused e = record { number = taken badRows accepted e; scale = taken [] _ e; output = taken before _ e; keeps = λ s none. absurd (no-scale s none) }
+  pub answer-refused : rowsRefused (length run) (length before) ≡ true → RowsFloored run w floor before refused before
+  answer-refused e = record {
+    number = taken badRows accepted e;
+    scale = taken [] _ e;
+    output = taken before _ e;
+    keeps = λ s none. absurd (no-scale s none);
+  }
 
-  pub answer-mixed : {after : List Float} {s : Float} → rowsRefused (length run) (length before) ≡ false → Floored (rowsOf run) w floor after s
-      → Mixed run w floor before (mixed s) after
+  pub answer-mixed : {after : List Float} {s : Float} → rowsRefused (length run) (length before) ≡ false
+      → Floored (rowsOf run) w floor after s
+      → RowsFloored run w floor before (mixed s) after
   answer-mixed e h = record {
     number = left badRows accepted e;
     scale = ap (λ (s : Float). s ∷ []) (h .scale-is) ∙ left [] _ e;

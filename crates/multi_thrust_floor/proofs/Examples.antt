@@ -1,5 +1,6 @@
--- A hard roll on `hex_x`, by computing: thrust 0.75, roll 0.5, floor 0.125. Rotor 2 has room for half of what it is asked, so all six are given half. (Scaled by its own limit,
--- each of rotors 3 to 6 would be given all.) Assumes nothing.
+-- A hard roll on `hex_x`, by computing: thrust 0.75, roll 0.5, floor 0.125. Rotor 2 has room for half of what it is
+-- asked, so all six are given half. (Scaled by its own limit, each of rotors 3 to 6 would be given all.) Assumes
+-- nothing.
 use mathlib.Core.Path.{_≡_, refl}
 use mathlib.Core.List.{[], _∷_}
 use lib.Ieee.{Float, binary32, add, sub, mul, div, neg, lt, ofBits}
@@ -27,6 +28,8 @@ abbrev 7/8 : Float
 abbrev hard : Wrench
 hard = record { thrust = 3/4; roll = 1/2; pitch = 0f; yaw = 0f }
 
-pub hard-roll : (flooredMotors hexRows hard 1/8 ≡ 1/2 ∷ 1f ∷ 7/8 ∷ 5/8 ∷ 5/8 ∷ 7/8 ∷ []) × (flooredScale hexRows hard 1/8 ≡ 1/2)
-unfolding add sub mul div neg lt ofBits treated clamped limited floorClamp limits motorLimit tightened walk settled fitScale hexRows lifted delta deltas oneScale scaledMotor scaledMotors thrustFloorScale thrustFloorMotors
+pub hard-roll : (flooredMotors hexRows hard 1/8 ≡ 1/2 ∷ 1f ∷ 7/8 ∷ 5/8 ∷ 5/8 ∷ 7/8 ∷ [])
+    × (flooredScale hexRows hard 1/8 ≡ 1/2)
+unfolding add sub mul div neg lt ofBits treated clamped limited floorClamp limits motorLimit tightened walk settled
+    fitScale hexRows lifted delta deltas oneScale scaledMotor scaledMotors thrustFloorScale thrustFloorMotors
 hard-roll = (refl, refl)

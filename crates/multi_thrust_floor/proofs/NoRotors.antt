@@ -1,4 +1,5 @@
--- "Zero rotors give scale 1" (document 02, K6): no rows and no outputs are accepted, and nothing is written. Assumes nothing.
+-- "Zero rotors give scale 1" (document 02, K6): no rows and no outputs are accepted, and nothing is written. Assumes
+-- nothing.
 use mathlib.Core.Path.{_≡_}
 use mathlib.Core.List.{List, [], _∷_}
 use lib.Ieee.{Float, lt, ofBits}
@@ -9,9 +10,12 @@ use Rattle.rules.specs.Multi.{rowsRefused}
 use Rattle.rules.specs.Command.{deltas}
 use Rattle.rules.specs.ThrustFloor.{oneScale, scaledMotors, thrustFloorMotors, thrustFloorScale}
 use Rattle.multi.specs.declared.Wrench.{Wrench}
-use Rattle.multi_thrust_floor.specs.declared.Answer.{Answer}
-use Rattle.multi_thrust_floor.specs.Floored.{scaleIn, Mixed}
+use Rattle.multi_thrust_floor.specs.declared.FloorAnswer.{FloorAnswer}
+use Rattle.multi_thrust_floor.specs.Floored.{scaleAnswered, RowsFloored}
 
-pub no-rotors : (w : Wrench) (floor : Float) (answer : Answer) (after : List Float) → Mixed [] w floor [] answer after → (scaleIn answer ≡ 1f ∷ []) × (after ≡ [])
-unfolding rowsOf rowsRefused deltas walk settled fitScale oneScale scaledMotors thrustFloorMotors thrustFloorScale lt ofBits
+pub no-rotors : (w : Wrench) (floor : Float) (answer : FloorAnswer) (after : List Float)
+    → RowsFloored [] w floor [] answer after
+    → (scaleAnswered answer ≡ 1f ∷ []) × (after ≡ [])
+unfolding rowsOf rowsRefused deltas walk settled fitScale oneScale scaledMotors thrustFloorMotors
+    thrustFloorScale lt ofBits
 no-rotors w floor answer after h = (h .scale, h .output)

@@ -1,4 +1,5 @@
--- "The thrust column is not read" (document 02, K6): whatever thrusts stand in the rows, motors and scale are the same. Assumes nothing.
+-- "The thrust column is not read" (document 02, K6): whatever thrusts stand in the rows, motors and scale are the same.
+-- Assumes nothing.
 use mathlib.Core.Path.{_≡_, refl, sym, ap₂, _∙_}
 use mathlib.Core.List.{List, [], _∷_, map}
 use lib.ListN.{set}
@@ -18,7 +19,8 @@ unfolding delta
 delta-same r p y [] t = refl
 delta-same r p y (x ∷ row) t = refl
 
-deltas-same : (t : Row → Float) (rows : List Row) (torque : List Float) → deltas (withThrusts t rows) torque ≡ deltas rows torque
+deltas-same : (t : Row → Float) (rows : List Row) (torque : List Float)
+    → deltas (withThrusts t rows) torque ≡ deltas rows torque
 unfolding deltas
 deltas-same t [] torque = refl
 deltas-same t (row ∷ rows) torque = ap₂ _∷_ (delta-same _ _ _ row (t row)) (deltas-same t rows torque)
@@ -36,4 +38,5 @@ module _ (t : Row → Float) (rows : List Row) (w : Wrench) (floor : Float) wher
       → Floored (withThrusts t rows) w floor motors scale
       → Floored rows w floor others other
       → (motors ≡ others) × (scale ≡ other)
-  thrusts-not-read motors others scale other h k = (h .is ∙ motors-same ∙ sym (k .is), h .scale-is ∙ scale-same ∙ sym (k .scale-is))
+  thrusts-not-read motors others scale other h k =
+      (h .is ∙ motors-same ∙ sym (k .is), h .scale-is ∙ scale-same ∙ sym (k .scale-is))

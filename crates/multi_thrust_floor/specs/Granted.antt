@@ -1,4 +1,5 @@
--- What a step of the code gives, from deltas to motors. A private function cites this; the public contracts, in `Floored`, do not. Definitions only.
+-- What a step of the code gives, from deltas to motors. A private function cites this; the public contracts, in
+-- `Floored`, do not. Definitions only.
 use mathlib.Core.Path.{_≡_}
 use mathlib.Core.List.{List}
 use lib.Ieee.{Float}

@@ -1,5 +1,7 @@
-// The thrust-floor mix of frames of any rows: thrust before torque on six, eight and up to 64 rotors, each command in floor..1 (document 02, K6). Follows the rule of relay-mix-quad's
-// `mix_thrust_floor` (Apache-2.0, see NOTICE), which is for four; changed: written in Rattle with contracts, over lent rows of any count. What is done for one rotor is the quad's code.
+// The thrust-floor mix of frames of any rows: thrust before torque on six, eight and up to 64 rotors, each command in
+// floor..1 (document 02, K6). Follows the rule of relay-mix-quad's `mix_thrust_floor` (Apache-2.0, see NOTICE), which
+// is for four; changed: written in Rattle with contracts, over lent rows of any count. What is done for one rotor is
+// the quad's code.
 ghost use mathlib.Core.Path.{_≡_};
 ghost use mathlib.Core.List.{map};
 ghost use Prim.Native.Nat.{_*_, _≤_};
@@ -8,7 +10,7 @@ ghost use Rattle.rules.specs.Rows.{rowsOf, hexRows, octoRows};
 ghost use Rattle.rules.specs.Command.{deltas};
 ghost use Rattle.rules.specs.Multi.{maxOutputs};
 ghost use Rattle.rules.specs.ThrustFloor.{scaledMotor};
-ghost use Rattle.multi_thrust_floor.specs.Floored.{wrenchTorque, Floored, Mixed};
+ghost use Rattle.multi_thrust_floor.specs.Floored.{wrenchTorque, Floored, RowsFloored};
 ghost use Rattle.multi_thrust_floor.specs.Granted.{Granted};
 use multi::MAX_OUTPUTS;
 use multi::Wrench;
@@ -23,7 +25,7 @@ use rotors::rows::row_at;
 use thrust_floor::scaled_motor;
 
 // What `mix` answers.
-pub enum Answer {
+pub enum FloorAnswer {
     // Number 0: the outputs are written, and this is the scale that their torque was given at.
     Mixed(f32),
     // Number 10: they stay as they were, and there is no scale.
@@ -70,8 +72,8 @@ fn give(floor: f32, base: f32, s: f32, d: &mut [f32])
     }
 }
 
-// Of what was asked, as much as fits: the deltas make way for the motors, and the scale is answered. There is one base for all rotors. It stands as often as there can be
-// outputs, and the fit scale goes as far as there are deltas.
+// Of what was asked, as much as fits: the deltas make way for the motors, and the scale is answered. There is one base
+// for all rotors. It stands as often as there can be outputs, and the fit scale goes as far as there are deltas.
 fn grant(thrust: f32, floor: f32, d: &mut [f32]) -> f32
     requires { ⌜ length (now d) ≤ maxOutputs ⌝ }
     ensures { λ s. ⌜ Granted thrust floor (now (d .entry)) (now (d .exit)) s ⌝ }
@@ -84,17 +86,19 @@ fn grant(thrust: f32, floor: f32, d: &mut [f32]) -> f32
     s
 }
 
-// A wrench to the commands of the rotors, by their rows: one run of floats, four (thrust, roll, pitch, yaw) for each output. The thrust of a row is not read: the collective is
-// one for all. The torque is scaled down, all of it alike, so that each command stays in floor..1. Where the run is not four floats for each output, or there are over 64
-// outputs, it is refused, and the outputs stay as they are. (The outputs hold the deltas until the scale is found, since there is a place for each.)
-pub fn mix(rows: &[f32], w: Wrench, floor: f32, out: &mut [f32]) -> Answer
-    ensures { λ a. ⌜ Mixed (now (rows .entry)) w floor (now (out .entry)) a (now (out .exit)) ⌝ }
+// A wrench to the commands of the rotors, by their rows: one run of floats, four (thrust, roll, pitch, yaw) for each
+// output. The thrust of a row is not read: the collective is one for all. The torque is scaled down, all of it alike,
+// so that each command stays in floor..1. Where the run is not four floats for each output, or there are over 64
+// outputs, it is refused, and the outputs stay as they are. (The outputs hold the deltas until the scale is found,
+// since there is a place for each.)
+pub fn mix(rows: &[f32], w: Wrench, floor: f32, out: &mut [f32]) -> FloorAnswer
+    ensures { λ a. ⌜ RowsFloored (now (rows .entry)) w floor (now (out .entry)) a (now (out .exit)) ⌝ }
 {
     if refused(rows.len(), out.len()) {
-        return Answer::Refused;
+        return FloorAnswer::Refused;
     }
     ask(rows, w, out);
-    Answer::Mixed(grant(w.thrust, floor, out))
+    FloorAnswer::Mixed(grant(w.thrust, floor, out))
 }
 
 // The mix of `hex_x`'s six rows.

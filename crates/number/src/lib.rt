@@ -1,17 +1,20 @@
 // One number: the tests, the treatment and the clamps that every mix is made of, for every bit pattern of an f32.
 //
-// `sanitise`, `clamp_floor` and the clamping in `limit` follow relay-mix-quad, `clamp01` follows relay-mix-multi (Apache-2.0, see NOTICE); changed: written in
-// Rattle with contracts, on one `clamp` of our own, and with choices in the place of branches.
+// `sanitise`, `clamp_floor` and the clamping in `limit` follow relay-mix-quad, `clamp01` follows relay-mix-multi
+// (Apache-2.0, see NOTICE); changed: written in Rattle with contracts, on one `clamp` of our own, and with choices in
+// the place of branches.
 ghost use mathlib.Core.Path.{_≡_};
 ghost use mathlib.Core.Bool.{cond};
 ghost use lib.Ieee.{isNan};
 ghost use lib.Ieee.Scale.{finite};
 ghost use Rattle.number.specs.Treat.{treated, clamped, limited, floorClamp, unitClamp};
 
-// Document 01's small, a threshold of three rules: the fit scale's for a delta, airmode's for a spread, and the solver's for a determinant.
+// Document 01's small, a threshold of three rules: the fit scale's for a delta, airmode's for a spread, and the
+// solver's for a determinant.
 pub const SMALL: f32 = 1.0e-6;
 
-// Whether x is neither a NaN nor an infinity: only then is x - x zero. This is the one test for it; nothing that calls it looks into it.
+// Whether x is neither a NaN nor an infinity: only then is x - x zero. This is the one test for it; nothing that calls
+// it looks into it.
 pub fn is_finite(x: f32) -> bool
     ensures { λ r. ⌜ r ≡ finite x ⌝ }
 {
@@ -39,28 +42,32 @@ pub fn sanitise(x: f32) -> f32
     pick(is_finite(x), x, 0.0)
 }
 
-// x held to lo..hi, as Rust's `f32::clamp` does it, but for every lo and hi: a NaN stays a NaN, and a -0 at a lo of +0 stays -0.
+// x held to lo..hi, as Rust's `f32::clamp` does it, but for every lo and hi: a NaN stays a NaN, and a -0 at a lo of +0
+// stays -0.
 pub fn clamp(x: f32, lo: f32, hi: f32) -> f32
     ensures { λ r. ⌜ r ≡ clamped x lo hi ⌝ }
 {
     pick(x < lo, lo, pick(x > hi, hi, x))
 }
 
-// A thrust or a floor as the mixes take it: treated, then held to 0..1. relay-mix-quad writes it `clamp01(sanitise(x))`.
+// A thrust or a floor as the mixes take it: treated, then held to 0..1. relay-mix-quad writes it
+// `clamp01(sanitise(x))`.
 pub fn limit(x: f32) -> f32
     ensures { λ r. ⌜ r ≡ limited x ⌝ }
 {
     clamp(sanitise(x), 0.0, 1.0)
 }
 
-// A motor's command held to lo..1. What is not finite gives lo: +infinity too, so that an overflow never commands full thrust.
+// A motor's command held to lo..1. What is not finite gives lo: +infinity too, so that an overflow never commands full
+// thrust.
 pub fn clamp_floor(x: f32, lo: f32) -> f32
     ensures { λ r. ⌜ r ≡ floorClamp x lo ⌝ }
 {
     pick(is_finite(x), clamp(x, lo, 1.0), lo)
 }
 
-// relay-mix-multi's clamp to 0..1: a NaN gives +0, +infinity gives 1. (relay-mix-quad has a private function of the same name that passes a NaN on: `clamp(x, 0.0, 1.0)`.)
+// relay-mix-multi's clamp to 0..1: a NaN gives +0, +infinity gives 1. (relay-mix-quad has a private function of the
+// same name that passes a NaN on: `clamp(x, 0.0, 1.0)`.)
 pub fn clamp01(x: f32) -> f32
     ensures { λ r. ⌜ r ≡ unitClamp x ⌝ }
 {

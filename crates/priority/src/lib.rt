@@ -1,5 +1,6 @@
-// The priority mix: thrust before roll and pitch, and these before yaw. Follows relay-mix-quad's `mix_priority` (Apache-2.0, see NOTICE); changed: written in Rattle with contracts, with
-// choices in the place of branches and the loops over four motors written out.
+// The priority mix: thrust before roll and pitch, and these before yaw. Follows relay-mix-quad's `mix_priority`
+// (Apache-2.0, see NOTICE); changed: written in Rattle with contracts, with choices in the place of branches and the
+// loops over four motors written out.
 use number::clamp_floor;
 use number::limit;
 use number::sanitise;
@@ -15,7 +16,8 @@ ghost use lib.Ieee.{nan};
 ghost use Rattle.number.specs.Treat.{treated};
 ghost use Rattle.rules.specs.Rows.{quadRows};
 ghost use Rattle.rules.specs.Command.{roll, pitch};
-ghost use Rattle.rules.specs.Priority.{yawGroup, rollPitchGroup, yawScale, rollPitchScale, priorityMotor, priorityMotors};
+ghost use Rattle.rules.specs.Priority.{yawGroup, rollPitchGroup, yawScale};
+ghost use Rattle.rules.specs.Priority.{rollPitchScale, priorityMotor, priorityMotors};
 
 fn yaw_group(row: [f32; 4], y: f32) -> f32
     ensures { λ d. ⌜ d ≡ yawGroup y row ⌝ }
@@ -56,7 +58,7 @@ fn roll_pitch_groups(r: f32, p: f32) -> [f32; 4]
     ]
 }
 
-// How much of the yaw fits on top of all of roll and pitch.
+// How much of the yaw fits beside all of roll and pitch.
 fn yaw_scale(floor: f32, base: f32, drp: [f32; 4], dy: [f32; 4]) -> f32
     ensures { λ s. ⌜ s ≡ yawScale floor base drp dy ⌝ }
 {
@@ -64,7 +66,7 @@ fn yaw_scale(floor: f32, base: f32, drp: [f32; 4], dy: [f32; 4]) -> f32
     fit::scale(&base_rp, &dy, floor)
 }
 
-// How much of roll and pitch fits on top of the scaled yaw.
+// How much of roll and pitch fits beside the scaled yaw.
 fn roll_pitch_scale(floor: f32, base: f32, sy: f32, drp: [f32; 4], dy: [f32; 4]) -> f32
     ensures { λ s. ⌜ s ≡ rollPitchScale floor base sy drp dy ⌝ }
 {

@@ -1,5 +1,6 @@
-// Inner functions, exported for comparison alone (compare/). Each passes on what one function of a crate below gives, and its contract says the same. It is no interface
-// for an autopilot: what is one, and is compared too, is in `exported`.
+// Inner functions, exported for comparison alone (compare/). Each passes on what one function of a crate under it
+// gives, and its contract says the same. It is no interface for an autopilot: what is one, and is compared too, is in
+// `exported`.
 use lines::TEXT;
 ghost use mathlib.Core.Path.{_≡_};
 ghost use lib.Ieee.{binary32, isNan, ofBits, toBits};
@@ -7,7 +8,7 @@ ghost use lib.Ieee.Scale.{finite};
 ghost use Rattle.number.specs.Treat.{treated, clamped, limited, floorClamp};
 ghost use Rattle.wire.specs.Bytes.{bytesOf, readAt, writeAt};
 ghost use Rattle.fit.specs.Fit.{fitScale};
-ghost use Rattle.solve.specs.Solve.{entry, determinant, solution};
+ghost use Rattle.solve.specs.Solve.{element, determinant, solution};
 ghost use Rattle.lines.specs.Lines.{Written};
 ghost use Rattle.report.specs.Report.{printed};
 ghost use Rattle.probes.specs.Matrix.{rows};
@@ -112,14 +113,17 @@ fn matrix(a: &[f32; 9]) -> [[f32; 3]; 3]
 
 #[no_mangle]
 pub extern "C" fn probe_det3(a: &[f32; 9]) -> f32
-    ensures { λ r. ⌜ r ≡ determinant (entry (rows (now (a .entry)))) ⌝ }
+    ensures { λ r. ⌜ r ≡ determinant (element (rows (now (a .entry)))) ⌝ }
 {
     solve::det3(matrix(a))
 }
 
 #[no_mangle]
 pub extern "C" fn probe_solve3(a: &[f32; 9], rhs: &[f32; 3], x: &mut [f32; 3]) -> bool
-    ensures { λ r. ⌜ (r ≡ solution (rows (now (a .entry))) (now (rhs .entry)) .solved) × (now (x .exit) ≡ solution (rows (now (a .entry))) (now (rhs .entry)) .x) ⌝ }
+    ensures { λ r. ⌜
+        (r ≡ solution (rows (now (a .entry))) (now (rhs .entry)) .solved)
+        × (now (x .exit) ≡ solution (rows (now (a .entry))) (now (rhs .entry)) .x)
+        ⌝ }
 {
     let v = *rhs;
     let s = solve::solve3(matrix(a), v);

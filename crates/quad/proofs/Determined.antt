@@ -1,5 +1,5 @@
--- Each public contract determines its answer: two results that satisfy it are one, by bits. A contract of this crate either says what the answer equals, or
--- is `Mixed`, whose `is` does. Assumes nothing.
+-- Each public contract determines its answer: two results that satisfy it are one, by bits. A contract of this crate
+-- either says what the answer equals, or is `QuadMixed`, whose `is` does. Assumes nothing.
 use mathlib.Core.Path.{_≡_}
 use mathlib.Core.List.{List}
 use Prim.Native.Nat.{ℕ}
@@ -9,9 +9,9 @@ use Rattle.rules.specs.Torque.{torqueOf}
 use Rattle.general.proofs.Determined.{Determined, equal-determined}
 use Rattle.quad.specs.declared.QuadMixer.{QuadMixer}
 use Rattle.quad.specs.Mixes.{PlainGives, ThrustFloorGives, PriorityGives, AirmodeGives, RotorOutGives}
-use Rattle.quad.specs.State.{fresh, Mixed}
+use Rattle.quad.specs.State.{fresh, QuadMixed}
 
-mixed-determined : {after : QuadMixer} {Keeps : List Float → Float → Type 0} → Determined (Mixed after Keeps)
+mixed-determined : {after : QuadMixer} {Keeps : List Float → Float → Type 0} → Determined (QuadMixed after Keeps)
 mixed-determined r q h k = equal-determined r q (h .is) (k .is)
 
 -- ---- the public functions

@@ -1,2 +1,2 @@
-pub mod Mixed
+pub mod QuadMixed
 pub mod Determined

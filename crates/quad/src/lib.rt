@@ -1,7 +1,8 @@
 // The quad's mixer by value: a command goes in with a state, and the new state, whose motors are the answer, comes out.
 //
-// Follows relay-mix-quad's QuadMixer (Apache-2.0, see NOTICE); changed: written in Rattle with contracts; a method takes the state and gives the new one in the
-// place of changing it where it stands; how each mix comes to its motors stands in a crate of its own.
+// Follows relay-mix-quad's QuadMixer (Apache-2.0, see NOTICE); changed: written in Rattle with contracts; a method
+// takes the state and gives the new one in the place of changing it where it stands; how each mix comes to its motors
+// stands in a crate of its own.
 //
 // What each mix gives is said in specs/Mixes: the motors and the promises by the crate `rules`, and the recorded scale.
 ghost use mathlib.Core.Path.{_≡_};
@@ -10,7 +11,8 @@ ghost use Rattle.rules.specs.Torque.{torqueOf};
 ghost use Rattle.quad.specs.Mixes.{PlainGives, ThrustFloorGives, PriorityGives, AirmodeGives, RotorOutGives};
 ghost use Rattle.quad.specs.State.{state, fresh};
 
-// The last motors, and the torque scale that the last thrust-floor or rotor-out recorded. The other mixes leave the scale as it is.
+// The last motors, and the torque scale that the last thrust-floor or rotor-out recorded. The other mixes leave the
+// scale as it is.
 #[repr(C)]
 pub struct QuadMixer {
     pub last_motors: [f32; 4],
@@ -63,7 +65,9 @@ impl QuadMixer {
         self.last_torque_scale
     }
 
-    // Priority: thrust before torque, which is given up in two groups, yaw, and roll and pitch; each motor in floor..1. The yaw's scale is found first, with roll and pitch in full. No one number says what was given, so the recorded scale stays.
+    // Priority: thrust before torque, which is given up in two groups, yaw, and roll and pitch; each motor in floor..1.
+    // The yaw's scale is found first, with roll and pitch in full. No one number says what was given, so the recorded
+    // scale stays.
     pub fn mix_priority(self, torque_body: [f32; 3], thrust: f32, floor: f32) -> QuadMixer
         ensures { λ r. ⌜ PriorityGives self «torque_body» thrust floor r ⌝ }
     {
@@ -79,7 +83,8 @@ impl QuadMixer {
         state(motors, self.last_torque_scale)
     }
 
-    // Rotor-out: a lost rotor 0 to 3 is +0, and every other motor is in floor..1. The recorded scale becomes 1: what is given is not one scale.
+    // Rotor-out: a lost rotor 0 to 3 is +0, and every other motor is in floor..1. The recorded scale becomes 1: what is
+    // given is not one scale.
     pub fn mix_rotor_out(
         self,
         failed: usize,
@@ -94,7 +99,8 @@ impl QuadMixer {
     }
 }
 
-// Roll, pitch and yaw sums of the motors by the rows: the sums themselves, not their signs. Motors of any bits are taken as they are, so a sum may be a NaN.
+// Roll, pitch and yaw sums of the motors by the rows: the sums themselves, not their signs. Motors of any bits are
+// taken as they are, so a sum may be a NaN.
 pub fn motors_to_torque_signs(motors: [f32; 4]) -> [f32; 3]
     ensures { λ r. ⌜ r ≡ torqueOf quadRows motors ⌝ }
 {

@@ -1,5 +1,6 @@
--- The laws of "first that applies" (`specs/Told.antt`): the first number that is not 0 decides; what is accepted has passed every line; and
--- what holds of every line's number, and of 0, holds of the number that is told. Assumes nothing.
+-- The laws of "first that applies" (`specs/Told.antt`): the first number that is not 0 decides; what is accepted has
+-- passed every line; and what holds of every line's number, and of 0, holds of the number that is told. Assumes
+-- nothing.
 use mathlib.Core.Path.{_≡_, refl, sym, ap}
 use mathlib.Core.Bool.{Bool, true, false, cond}
 use mathlib.Core.List.{List, [], _∷_}
@@ -23,7 +24,7 @@ next-decides n ns h = rw h
 
 -- of an entry's number and what comes later
 module _ (n i : ℕ) (later : Told) where
-  pub told-here : eqb n accepted ≡ false → atEntry n i later ≡ record { number = n; entry = i }
+  pub told-here : eqb n accepted ≡ false → atEntry n i later ≡ record { number = n; ofEntry = i }
   unfolding atEntry
   told-here h = rw h
 
@@ -32,12 +33,14 @@ module _ (n i : ℕ) (later : Told) where
   told-later h = rw h
 
   -- what an entry by itself is told decides, unless it is 0
-  pub entry-decides : {t : Told} → atEntry n i (alone accepted) ≡ t → eqb (t .number) accepted ≡ false → atEntry n i later ≡ t
+  pub entry-decides : {t : Told} → atEntry n i (alone accepted) ≡ t → eqb (t .number) accepted ≡ false
+      → atEntry n i later ≡ t
   unfolding atEntry
   entry-decides {t} = go (eqb n accepted)
     where
-      go : (b : Bool) → cond b (alone accepted) (record { number = n; entry = i }) ≡ t → eqb (t .number) accepted ≡ false
-          → cond b later (record { number = n; entry = i }) ≡ t
+      go : (b : Bool) → cond b (alone accepted) (record { number = n; ofEntry = i }) ≡ t
+          → eqb (t .number) accepted ≡ false
+          → cond b later (record { number = n; ofEntry = i }) ≡ t
       go true e h = absurd (eqb-false (t .number) accepted h (sym (ap (λ (t : Told). t .number) e)))
       go false e h = e
 
@@ -60,11 +63,13 @@ pub first-passed : (n : ℕ) (ns : List ℕ) → first (n ∷ ns) ≡ accepted �
 unfolding first
 first-passed n ns = later-counts n (first ns)
 
-pub entry-passed : (n i : ℕ) (later : Told) → atEntry n i later .number ≡ accepted → (n ≡ accepted) × (later .number ≡ accepted)
+pub entry-passed : (n i : ℕ) (later : Told) → atEntry n i later .number ≡ accepted
+    → (n ≡ accepted) × (later .number ≡ accepted)
 unfolding atEntry
 entry-passed n i later = go (eqb n accepted) refl
   where
-    go : (t : Bool) → eqb n accepted ≡ t → cond t later (record { number = n; entry = i }) .number ≡ accepted → (n ≡ accepted) × (later .number ≡ accepted)
+    go : (t : Bool) → eqb n accepted ≡ t → cond t later (record { number = n; ofEntry = i }) .number ≡ accepted
+        → (n ≡ accepted) × (later .number ≡ accepted)
     go true e h = (eqb-true n accepted e, h)
     go false e h = absurd (eqb-false n accepted e h)
 
@@ -89,6 +94,6 @@ pub entry-keeps : (P : ℕ → Type 0) (n i : ℕ) (later : Told) → P n → P 
 unfolding atEntry
 entry-keeps P n i later h k = go (eqb n accepted)
   where
-    go : (t : Bool) → P (cond t later (record { number = n; entry = i }) .number)
+    go : (t : Bool) → P (cond t later (record { number = n; ofEntry = i }) .number)
     go true = k
     go false = h

@@ -1,5 +1,5 @@
--- The numbers of refusals (the table in document 01, 'The command sheet (ours)'). docs/REFUSALS.md has their words for people. A new
--- number is a line here. Definitions only; the quotations are document 01's.
+-- The numbers of refusals (the table in document 01, 'The command sheet (ours)'). docs/REFUSALS.md has their words for
+-- people. A new number is a line here. Definitions only; the quotations are document 01's.
 use Prim.Native.Nat.{ℕ}
 
 -- "accepted"

@@ -1,5 +1,5 @@
--- How a number is chosen, "first that applies", and what is told: a number, and the number of the entry that it comes with (the table
--- in document 01, 'The command sheet (ours)'). Definitions only; the quotations are document 01's.
+-- How a number is chosen, "first that applies", and what is told: a number, and the number of the entry that it comes
+-- with (the table in document 01, 'The command sheet (ours)'). Definitions only; the quotations are document 01's.
 use mathlib.Core.Bool.{Bool, cond}
 use mathlib.Core.List.{List, [], _∷_}
 use Prim.Native.Nat.{ℕ}
@@ -21,12 +21,12 @@ first (n ∷ ns) = orElse n (first ns)
 -- what is answered: a number, and the number of the entry that it comes with
 pub record Told : Type 0 where
   pub number : ℕ
-  pub entry : ℕ
+  pub ofEntry : ℕ
 
 -- "other numbers come with 0"
 abbrev pub alone : ℕ → Told
-alone n = record { number = n; entry = 0 }
+alone n = record { number = n; ofEntry = 0 }
 
 -- a number of entry i, and where the number is 0 what comes after it
 unfoldable pub atEntry : ℕ → ℕ → Told → Told
-atEntry n i later = cond (eqb n accepted) later (record { number = n; entry = i })
+atEntry n i later = cond (eqb n accepted) later (record { number = n; ofEntry = i })

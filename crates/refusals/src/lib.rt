@@ -1,1 +1,2 @@
-// The paper's numbers of refusals, and "first that applies", under everything that refuses. No code: see specs/ and proofs/.
+// The paper's numbers of refusals, and "first that applies", under everything that refuses. No code: see specs/ and
+// proofs/.

@@ -1,5 +1,6 @@
-// Our answers, kind by kind. One kind more is an arm of `answer` here, in mixes.rt if it is about the quad, in frames.rt if it is about any frame, or in floors.rt if it is about
-// thrust-floor by rows, and a line in compare/driver/src/list.rs, list_quad.rs, list_frame.rs or list_floor.rs.
+// Our answers, kind by kind. One kind more is an arm of `answer` here, in mixes.rt if it is about the quad, in
+// frames.rt if it is about any frame, or in floors.rt if it is about thrust-floor by rows, and a line in
+// compare/driver/src/list.rs, list_quad.rs, list_frame.rs or list_floor.rs.
 ghost use Prim.Native.Nat.{_+_, _≤_};
 ghost use lib.ListN.{length};
 use crate::mixes;
@@ -13,16 +14,17 @@ pub(crate) const INPUTS: usize = 261;
 // The room for its answers, which are compared as a run of words.
 pub(crate) const ANSWERS: usize = WORDS;
 
-// What we answer, with zeros after the last word, and the quad's state after the record. No kind has the head where `known` is false.
+// What we answer, with zeros after the last word, and the quad's state after the record. No kind has the head where
+// `known` is false.
 pub(crate) struct Ours {
     pub(crate) known: bool,
     pub(crate) words: [u32; ANSWERS],
     pub(crate) state: QuadMixer,
 }
 
-// Our answer to a record, from its head, its inputs and the state that the record before it left. A head is 0xKKAA_IIII: the kind, how many words the
-// answers take and how many the inputs take. `float_of` has read the inputs and `bits_of` writes the answers, so kind 4, the round trip from bits to bits, has no
-// more to do.
+// Our answer to a record, from its head, its inputs and the state that the record before it left. A head is
+// 0xKKAA_IIII: the kind, how many words the answers take and how many the inputs take. `float_of` has read the inputs
+// and `bits_of` writes the answers, so kind 4, the round trip from bits to bits, has no more to do.
 pub(crate) fn answer(head: u32, x: &[f32; INPUTS], state: QuadMixer) -> Ours {
     match head {
         0x0101_0001 => one(state, number::sanitise(x[0])),

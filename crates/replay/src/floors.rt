@@ -9,7 +9,7 @@ use crate::answers::words_of;
 use crate::frames::unknown;
 use crate::frames::wrench;
 use multi::Wrench;
-use multi_thrust_floor::Answer;
+use multi_thrust_floor::FloorAnswer;
 use multi_thrust_floor::Hex;
 use multi_thrust_floor::Octo;
 use multi_thrust_floor::mix;
@@ -40,18 +40,18 @@ fn lent(state: QuadMixer, x: &[f32; INPUTS], outputs: usize) -> Ours
     lent_to(state, wrench(x), x, outputs, &mut room)
 }
 
-// The motors, and after them the scale, are written to the first of the floats that are lent, which are zeros. No record is one that is refused, so a refusal counts as a
-// difference.
+// The motors, and after them the scale, are written to the first of the floats that are lent, which are zeros. No
+// record is one that is refused, so a refusal counts as a difference.
 fn lent_to(state: QuadMixer, w: Wrench, x: &[f32], outputs: usize, room: &mut [f32]) -> Ours
     requires { ⌜ (outputs < length (now room)) × (outputs ≤ 64) × (5 + 4 * outputs ≤ length (now x)) ⌝ }
 {
     let end = 5 + 4 * outputs;
     match mix(&x[5..end], w, x[4], &mut room[..outputs]) {
-        Answer::Mixed(s) => {
+        FloorAnswer::Mixed(s) => {
             room[outputs] = s;
             told(words_of(room), state)
         }
-        Answer::Refused => unknown(state),
+        FloorAnswer::Refused => unknown(state),
     }
 }
 

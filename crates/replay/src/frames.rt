@@ -8,7 +8,7 @@ use crate::answers::told;
 use crate::answers::words_of;
 use crate::floors;
 use frame::MixerN;
-use multi::Answer;
+use multi::MixAnswer;
 use multi::Wrench;
 use quad::QuadMixer;
 
@@ -100,13 +100,14 @@ fn lent(state: QuadMixer, x: &[f32; INPUTS], outputs: usize) -> Ours
     lent_to(state, wrench(x), x, outputs, &mut room)
 }
 
-// The motors are written to the first of the floats that are lent, which are zeros. A refusal is no answer of the Rust's, so it counts as a difference.
+// The motors are written to the first of the floats that are lent, which are zeros. A refusal is no answer of the
+// Rust's, so it counts as a difference.
 fn lent_to(state: QuadMixer, w: Wrench, x: &[f32], outputs: usize, room: &mut [f32]) -> Ours
     requires { ⌜ (outputs ≤ length (now room)) × (outputs ≤ 64) × (4 + 4 * outputs ≤ length (now x)) ⌝ }
 {
     let end = 4 + 4 * outputs;
     match multi::mix(&x[4..end], w, &mut room[..outputs]) {
-        Answer::Mixed => told(words_of(room), state),
-        Answer::Refused => unknown(state),
+        MixAnswer::Mixed => told(words_of(room), state),
+        MixAnswer::Refused => unknown(state),
     }
 }

@@ -21,7 +21,8 @@ pub(crate) struct Tally {
     pub(crate) differ: usize,
 }
 
-// Replays a list, from a new state of the quad on. What is left after the last whole record is one difference, whatever it is.
+// Replays a list, from a new state of the quad on. What is left after the last whole record is one difference, whatever
+// it is.
 pub(crate) fn replay(list: &[u8]) -> Tally {
     let mut compared = 0;
     let mut differ = 0;
@@ -47,7 +48,8 @@ pub(crate) fn replay(list: &[u8]) -> Tally {
     Tally { compared, differ }
 }
 
-// Whether the records end where the list does, and are as many as it says. A list that fills the room may have more to come.
+// Whether the records end where the list does, and are as many as it says. A list that fills the room may have more to
+// come.
 fn is_whole(list: &[u8], at: usize, compared: usize) -> bool {
     at == list.len() && at < ROOM && compared == read_u32(list, 0) as usize
 }
@@ -74,7 +76,8 @@ struct Seen {
     state: QuadMixer,
 }
 
-// Works through a record, from the state that the one before it left. Where the two answers differ, prints both if they are to be shown.
+// Works through a record, from the state that the one before it left. Where the two answers differ, prints both if they
+// are to be shown.
 fn compare(number: usize, record: &[u8], state: QuadMixer, is_shown: bool) -> Seen {
     let head = read_u32(record, 0);
     let ours = answer(head, &inputs(record), state);

@@ -1,4 +1,5 @@
-// Our answers about the quad. A mix acts on the state that the record before it left, and its answers are what the readers say of the new state.
+// Our answers about the quad. A mix acts on the state that the record before it left, and its answers are what the
+// readers say of the new state.
 use crate::answers::INPUTS;
 use crate::answers::Ours;
 use crate::answers::told;

@@ -6,5 +6,6 @@ use Rattle.lines.specs.Lines.{Written}
 use Rattle.lines.proofs.Determined.{written-determined}
 use Rattle.report.specs.Report.{printed}
 
-pub text-of-determined : (s before after other : List ℕ) (r q : ℕ) → Written (printed s) before after r → Written (printed s) before other q → (after ≡ other) × (r ≡ q)
+pub text-of-determined : (s before after other : List ℕ) (r q : ℕ) → Written (printed s) before after r
+    → Written (printed s) before other q → (after ≡ other) × (r ≡ q)
 text-of-determined s = written-determined (printed s)

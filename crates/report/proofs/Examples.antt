@@ -21,20 +21,24 @@ use Rattle.report.specs.Report.{printed}
 
 -- `01 00 04 00` prints nothing
 no-entries : printed (0x01 ∷ 0x00 ∷ 0x04 ∷ 0x00 ∷ []) ≡ []
-unfolding printed judgedFor judged headNumber first atEntry entriesTold endNumber bodyAt readAt littleEndian linesOf linesFrom
+unfolding printed judgedFor judged headNumber first atEntry entriesTold endNumber bodyAt readAt littleEndian
+    linesOf linesFrom
 no-entries = refl
 
 -- `01 41 04 00` prints `refused 3 at 0`
-too-many : printed (0x01 ∷ 0x41 ∷ 0x04 ∷ 0x00 ∷ []) ≡ 114 ∷ 101 ∷ 102 ∷ 117 ∷ 115 ∷ 101 ∷ 100 ∷ 32 ∷ 51 ∷ 32 ∷ 97 ∷ 116 ∷ 32 ∷ 48 ∷ 10 ∷ []
+too-many : printed (0x01 ∷ 0x41 ∷ 0x04 ∷ 0x00 ∷ [])
+    ≡ 114 ∷ 101 ∷ 102 ∷ 117 ∷ 115 ∷ 101 ∷ 100 ∷ 32 ∷ 51 ∷ 32 ∷ 97 ∷ 116 ∷ 32 ∷ 48 ∷ 10 ∷ []
 unfolding printed judgedFor judged headNumber first atEntry readAt littleEndian refusedLine decimalOf decimalWithin
 too-many = refl
 
 -- the sheet of one thrust-floor entry prints `0 1 3e800000 3e800000 3f400000 3f400000 3f000000`
-entry : List ℕ
-entry = 0x01 ∷ 0x01 ∷ 0x1c ∷ 0x00 ∷ 0x01 ∷ 0x00 ∷ 0x08 ∷ 0x00 ∷ []
+before-body : List ℕ
+before-body = 0x01 ∷ 0x01 ∷ 0x1c ∷ 0x00 ∷ 0x01 ∷ 0x00 ∷ 0x08 ∷ 0x00 ∷ []
 
 body : List ℕ
-body = 0x00 ∷ 0x00 ∷ 0x00 ∷ 0x3f ∷ 0x00 ∷ 0x00 ∷ 0x00 ∷ 0x3f ∷ 0x00 ∷ 0x00 ∷ 0x00 ∷ 0x00 ∷ 0x00 ∷ 0x00 ∷ 0x00 ∷ 0x00 ∷ 0x00 ∷ 0x00 ∷ 0x80 ∷ 0x3e ∷ []
+body =
+    0x00 ∷ 0x00 ∷ 0x00 ∷ 0x3f ∷ 0x00 ∷ 0x00 ∷ 0x00 ∷ 0x3f ∷ 0x00 ∷ 0x00 ∷ 0x00 ∷ 0x00 ∷ 0x00 ∷ 0x00 ∷ 0x00 ∷ 0x00
+    ∷ 0x00 ∷ 0x00 ∷ 0x80 ∷ 0x3e ∷ []
 
 quarter : List ℕ
 quarter = 32 ∷ 51 ∷ 101 ∷ 56 ∷ 48 ∷ 48 ∷ 48 ∷ 48 ∷ 48 ∷ []
@@ -45,6 +49,12 @@ three-quarters = 32 ∷ 51 ∷ 102 ∷ 52 ∷ 48 ∷ 48 ∷ 48 ∷ 48 ∷ 48 ∷
 half : List ℕ
 half = 32 ∷ 51 ∷ 102 ∷ 48 ∷ 48 ∷ 48 ∷ 48 ∷ 48 ∷ 48 ∷ []
 
-one-entry : printed (entry ++ body) ≡ (48 ∷ 32 ∷ 49 ∷ []) ++ quarter ++ quarter ++ three-quarters ++ three-quarters ++ half ++ (10 ∷ [])
-unfolding entry body quarter three-quarters half add sub mul div neg lt le eq ofBits toBits treated clamped limited floorClamp littleEndian bytesOf readAt limits motorLimit tightened walk settled fitScale quadRows lifted delta deltas oneScale scaledMotor scaledMotors thrustFloorScale thrustFloorMotors first atEntry bodySize bodyAt numberIn failedOf caseOf commandOf commandWith commandAt choiceNumber entryNumber headNumber endNumber entriesTold judged called commandsFrom floatBytes answersOf judgedFor hexOf decimalWithin decimalOf wordAt lineOf linesFrom linesOf printed
+one-entry : printed (before-body ++ body)
+    ≡ (48 ∷ 32 ∷ 49 ∷ []) ++ quarter ++ quarter ++ three-quarters ++ three-quarters ++ half ++ (10 ∷ [])
+unfolding before-body body quarter three-quarters half add sub mul div neg lt le eq ofBits toBits treated clamped
+    limited floorClamp littleEndian bytesOf readAt limits motorLimit tightened walk settled fitScale quadRows lifted
+    delta deltas oneScale scaledMotor scaledMotors thrustFloorScale thrustFloorMotors first atEntry bodySize bodyAt
+    numberIn failedOf caseOf commandOf commandWith commandAt choiceNumber entryNumber headNumber endNumber entriesTold
+    judged called commandsFrom floatBytes answersOf judgedFor hexOf decimalWithin decimalOf wordAt lineOf linesFrom
+    linesOf printed
 one-entry = refl

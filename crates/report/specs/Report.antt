@@ -1,4 +1,5 @@
--- What `mixrun` prints (document 01, 'The command sheet (ours)': "Program `mixrun`"). Definitions only; the quotations are document 01's.
+-- What `mixrun` prints (document 01, 'The command sheet (ours)': "Program `mixrun`"). Definitions only; the quotations
+-- are document 01's.
 use mathlib.Core.Bool.{cond}
 use mathlib.Core.List.{List}
 use Prim.Native.Nat.{ℕ, _*_}
@@ -17,4 +18,6 @@ room = answerSize * maxEntries
 -- "The bytes read are the sheet, run from a fresh state. It prints a line an entry [...] A refusal is one line"
 unfoldable pub printed : List ℕ → List ℕ
 printed s =
-    cond (eqb (judgedFor s room .number) accepted) (linesOf s (answersOf fresh (commandsOf s))) (refusedLine (judgedFor s room .number) (judgedFor s room .entry))
+    cond (eqb (judgedFor s room .number) accepted)
+    (linesOf s (answersOf fresh (commandsOf s)))
+    (refusedLine (judgedFor s room .number) (judgedFor s room .ofEntry))

@@ -12,7 +12,8 @@ use sheet_run::run;
 // Room for the answers of 64 entries, the most that a sheet has, so that it is never refused for a short output.
 const ANSWERS: usize = 1280;
 
-// Runs a sheet from a fresh state. The lines that are printed go to the start of the text; answers how many bytes they are.
+// Runs a sheet from a fresh state. The lines that are printed go to the start of the text; answers how many bytes they
+// are.
 pub fn text_of(sheet: &[u8], text: &mut [u8; TEXT]) -> usize
     ensures { λ r. ⌜ Written (printed (now (sheet .entry))) (now (text .entry)) (now (text .exit)) r ⌝ }
 {
@@ -21,6 +22,6 @@ pub fn text_of(sheet: &[u8], text: &mut [u8; TEXT]) -> usize
     let verdict = outcome.verdict;
     match verdict {
         Verdict::Accepted => entry_lines(sheet, &answers, text),
-        Verdict::Refused(refusal, entry) => refused_line(number(refusal), entry, text),
+        Verdict::Refused(refusal, i) => refused_line(number(refusal), i, text),
     }
 }

@@ -1,5 +1,6 @@
-// The mix for a lost rotor. Follows relay-mix-quad's `mix_rotor_out` (Apache-2.0, see NOTICE); changed: written in Rattle with contracts, with
-// choices in the place of branches, the loops over four motors written out, and the lost rotor's number written out where its equations are solved.
+// The mix for a lost rotor. Follows relay-mix-quad's `mix_rotor_out` (Apache-2.0, see NOTICE); changed: written in
+// Rattle with contracts, with choices in the place of branches, the loops over four motors written out, and the lost
+// rotor's number written out where its equations are solved.
 use number::clamp;
 use number::clamp_floor;
 use number::limit;
@@ -18,9 +19,10 @@ ghost use mathlib.Core.List.{map};
 ghost use Prim.Native.Nat.{_<_};
 ghost use lib.Dec.{ltb};
 ghost use Rattle.rules.specs.Rows.{quadRows};
-ghost use Rattle.rules.specs.RotorOut.{tilt, tiltMotor, equations, placed, baseWithout, deltaWithout, motorWithout, motorsWithout, rotorOutMotors};
+ghost use Rattle.rules.specs.RotorOut.{tilt, tiltMotor, equations, placed, baseWithout, deltaWithout};
+ghost use Rattle.rules.specs.RotorOut.{motorWithout, motorsWithout, rotorOutMotors};
 
-// A torque this large is far outside flight; held to it, the three equations below never overflow.
+// A torque this large is far outside flight; held to it, the three equations never overflow.
 const TAU_BOUND: f32 = 8.0;
 
 // A roll or pitch torque as this mix takes it.
@@ -72,7 +74,8 @@ fn placed(failed: usize, x: [f32; 3]) -> [f32; 4]
     v
 }
 
-// The two parts of each rotor's command: what gives three times the thrust and no moment, and what gives roll and pitch and no thrust.
+// The two parts of each rotor's command: what gives three times the thrust and no moment, and what gives roll and pitch
+// and no thrust.
 struct Split {
     base: [f32; 4],
     delta: [f32; 4],
@@ -90,7 +93,8 @@ fn both(failed: usize, base: Solution, delta: Solution) -> Split
     }
 }
 
-// Each lost rotor has its own line, so that the compiler solves beforehand as much of the equations as no command changes.
+// Each lost rotor has its own line, so that the compiler solves beforehand as much of the equations as no command
+// changes.
 fn split_without(failed: usize, t: f32, r: f32, p: f32) -> Split
     requires { ⌜ failed < 4 ⌝ }
     ensures { λ x. ⌜ x ≡ record { base = baseWithout failed t; delta = deltaWithout failed r p } ⌝ }
@@ -142,7 +146,10 @@ fn motors_without(failed: usize, floor: f32, b: [f32; 4], d: [f32; 4]) -> [f32; 
 }
 
 fn allotted(failed: usize, floor: f32, t: f32, r: f32, p: f32) -> [f32; 4]
-    ensures { λ m. ⌜ m ≡ cond (ltb failed 4) (motorsWithout failed floor (baseWithout failed t) (deltaWithout failed r p)) (map (tiltMotor floor t r p) quadRows) ⌝ }
+    ensures { λ m. ⌜
+        m ≡ cond (ltb failed 4) (motorsWithout failed floor (baseWithout failed t) (deltaWithout failed r p))
+        (map (tiltMotor floor t r p) quadRows)
+        ⌝ }
 {
     if failed >= 4 {
         return none_lost(floor, t, r, p);
@@ -153,7 +160,8 @@ fn allotted(failed: usize, floor: f32, t: f32, r: f32, p: f32) -> [f32; 4]
     motors_without(failed, floor, base, delta)
 }
 
-// Rotor `failed`, 0 to 3, is lost and commanded +0; the other three share thrust, roll and pitch, and yaw is given up. With a number of 4 or more none is lost.
+// Rotor `failed`, 0 to 3, is lost and commanded +0; the other three share thrust, roll and pitch, and yaw is given up.
+// With a number of 4 or more none is lost.
 pub fn motors(failed: usize, torque_body: [f32; 3], thrust: f32, floor: f32) -> [f32; 4]
     ensures { λ m. ⌜ m ≡ rotorOutMotors failed «torque_body» thrust floor ⌝ }
 {

@@ -1,4 +1,5 @@
-// What the mixes make of a command before any of them fits it to the motors. Follows relay-mix-quad (Apache-2.0, see NOTICE); changed: functions of their own.
+// What the mixes make of a command before any of them fits it to the motors. Follows relay-mix-quad (Apache-2.0, see
+// NOTICE); changed: functions of their own.
 use crate::rows::M1;
 use crate::rows::M2;
 use crate::rows::M3;

@@ -1,5 +1,6 @@
--- Each motor lies between its floor and 1, and so in 0..1: every mix ends in the floor clamp, whatever it clamps. Of the rotor-out mix this holds of the
--- rotors that are not lost; the lost one is +0. Nothing is asked of the command but that the floor is an f32. Assumes nothing.
+-- Each motor lies between its floor and 1, and so in 0..1: every mix ends in the floor clamp, whatever it clamps. Of
+-- the rotor-out mix this holds of the rotors that are not lost; the lost one is +0. Nothing is asked of the command but
+-- that the floor is an f32. Assumes nothing.
 use mathlib.Core.Path.{_≡_, refl, _∙_}
 use mathlib.Core.List.{List, [], _∷_, map}
 use Prim.Native.Nat.{ℕ, zero, suc, _≤_, _<_}
@@ -26,7 +27,8 @@ use Rattle.rules.specs.Multi.{wrenchMotors}
 use Rattle.general.specs.Each.{Each}
 use Rattle.rules.specs.Promises.{InUnit, RotorOutKeeps}
 use Rattle.general.proofs.Lists.{each-mapped, each-at}
-use Rattle.rules.proofs.Clamp.{Floor, Inside, zero-floor, limited-floor, inside-unit, treated-finite, clamp-inside, unit-clamp-between}
+use Rattle.rules.proofs.Clamp.{Floor, Inside, zero-floor, limited-floor, inside-unit}
+use Rattle.rules.proofs.Clamp.{treated-finite, clamp-inside, unit-clamp-between}
 
 -- ---- motors that were clamped
 
@@ -49,17 +51,20 @@ each-clamped {lo} g fg h xs = record {
 pub thrust-floor-clamped : (rows : List Row) (torque : List Float) (thrust floor : Float) → T (fits binary32 floor)
     → Clamped (limited floor) (thrustFloorMotors rows torque thrust floor)
 unfolding thrustFloorMotors scaledMotors scaledMotor
-thrust-floor-clamped rows torque thrust floor ff = each-clamped _ (λ d. add-fits binary32 _ _) (limited-floor floor ff) (deltas rows torque)
+thrust-floor-clamped rows torque thrust floor ff =
+    each-clamped _ (λ d. add-fits binary32 _ _) (limited-floor floor ff) (deltas rows torque)
 
 -- the scale that thrust-floor records is a fit scale
-pub thrust-floor-scaled : (rows : List Row) (torque : List Float) (thrust floor : Float) → Between 0f 1f (thrustFloorScale rows torque thrust floor)
+pub thrust-floor-scaled : (rows : List Row) (torque : List Float) (thrust floor : Float)
+    → Between 0f 1f (thrustFloorScale rows torque thrust floor)
 unfolding thrustFloorScale oneScale
 thrust-floor-scaled rows torque thrust floor = scale-between _ _ _
 
 pub priority-clamped : (rows : List Row) (torque : List Float) (thrust floor : Float) → T (fits binary32 floor)
     → Clamped (limited floor) (priorityMotors rows torque thrust floor)
 unfolding priorityMotors priorityMotor
-priority-clamped rows torque thrust floor ff = each-clamped _ (λ row. add-fits binary32 _ _) (limited-floor floor ff) rows
+priority-clamped rows torque thrust floor ff =
+    each-clamped _ (λ row. add-fits binary32 _ _) (limited-floor floor ff) rows
 
 shifted-clamped : {idle : Float} → Floor idle → (xs : List Float) → Clamped idle (shifted idle xs)
 unfolding shifted
@@ -92,7 +97,8 @@ without-keeps failed floor bs ds ff =
     let h = limited-floor floor ff in
     let s = fitScale (limited floor) bs ds in
     let motor = motorWithout failed (limited floor) s bs ds in
-    let motor-inside : (i : ℕ) → Inside (limited floor) (floorClamp (treated (getD bs i nan +f s *f getD ds i nan)) (limited floor)) =
+    let motor-inside : (i : ℕ)
+    → Inside (limited floor) (floorClamp (treated (getD bs i nan +f s *f getD ds i nan)) (limited floor)) =
     λ i. clamp-inside _ (treated-finite _ (add-fits binary32 _ _) .fits) h in
     record {
       lost = λ l. at-four motor failed l ∙ rw (eq-eqb failed failed refl);
@@ -104,7 +110,8 @@ without-keeps failed floor bs ds ff =
 
 -- ---- the rotor-out mix where none is lost: all four are bounded
 
-tilt-clamped : (floor t r p : Float) → Floor floor → (rows : List Row) → Clamped floor (map (tiltMotor floor t r p) rows)
+tilt-clamped : (floor t r p : Float) → Floor floor → (rows : List Row)
+    → Clamped floor (map (tiltMotor floor t r p) rows)
 unfolding tiltMotor
 tilt-clamped floor t r p h rows = each-clamped _ (λ row. treated-finite _ (add-fits binary32 _ _) .fits) h rows
 
@@ -115,6 +122,8 @@ tilt-keeps failed floor t r p ff l =
     let k = tilt-clamped (limited floor) t r p (limited-floor floor ff) quadRows in
     record {
       lost = λ g. let no : ⊥ = omega arith in absurd no;
-      healthy = λ i g n. each-at (Between (limited floor) 1f) nan (map (tiltMotor (limited floor) t r p) quadRows) (k .bounded) i g;
+      healthy =
+          λ i g n. each-at (Between (limited floor) 1f) nan (map (tiltMotor (limited floor) t r p) quadRows)
+          (k .bounded) i g;
       unit = k .unit;
     }

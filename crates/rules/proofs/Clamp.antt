@@ -1,6 +1,7 @@
--- What holding a number to a range gives: the limited number lies in 0..1, and the floor clamp in floor..1; it leaves what lies there as it is, gives the
--- floor for what is under it, and keeps the order of finite numbers. A floor is any number in 0..1. Last, what the mixes make of a command first: a delta is
--- finite, and the collective is such a number. Assumes nothing.
+-- What holding a number to a range gives: the limited number lies in 0..1, and the floor clamp in floor..1; it leaves
+-- what lies there as it is, gives the floor for what is under it, and keeps the order of finite numbers. A floor is any
+-- number in 0..1. Last, what the mixes make of a command first: a delta is finite, and the collective is such a number.
+-- Assumes nothing.
 use mathlib.Core.Path.{_≡_, refl, _∙_}
 use mathlib.Core.Bool.{Bool, true, false, cond}
 use lib.Dec.{T}
@@ -27,7 +28,8 @@ module _ {f : Format} {lo hi : Float} (nl : Number f lo) (nh : Number f hi) (h :
   clamped-between {x} nx =
       by-test (Between lo hi) (lt x lo)
       (λ e. record { from = le-refl nl; to = h })
-      (λ e. by-test (Between lo hi) (lt hi x) (λ g. record { from = h; to = le-refl nh }) (λ g. record { from = not-under nx nl e; to = not-under nh nx g }))
+      (λ e. by-test (Between lo hi) (lt hi x) (λ g. record { from = h; to = le-refl nh })
+      (λ g. record { from = not-under nx nl e; to = not-under nh nx g }))
 
   -- what is there already stays as it is
   pub clamped-stays : {x : Float} → Number f x → Between lo hi x → clamped x lo hi ≡ x
@@ -35,7 +37,8 @@ module _ {f : Format} {lo hi : Float} (nl : Number f lo) (nh : Number f hi) (h :
   clamped-stays nx b = rw (not-over nl nx (b .from), not-over nx nh (b .to))
 
   -- and the order is kept
-  pub clamped-order : {x y : Float} → Number f x → Number f y → le x y ≡ true → le (clamped x lo hi) (clamped y lo hi) ≡ true
+  pub clamped-order : {x y : Float} → Number f x → Number f y → le x y ≡ true
+      → le (clamped x lo hi) (clamped y lo hi) ≡ true
   unfolding clamped
   clamped-order {x} {y} nx ny o = go (lt x lo) (lt hi y) refl refl
     where
@@ -45,8 +48,10 @@ module _ {f : Format} {lo hi : Float} (nl : Number f lo) (nh : Number f hi) (h :
       go false false e g =
           let low = not-under nx nl e in
           let high = not-under nh ny g in
-          rw
-          (clamped-stays nx (record { from = low; to = le-trans nx ny nh o high }), clamped-stays ny (record { from = le-trans nl nx ny low o; to = high })) o
+          rw (
+            clamped-stays nx (record { from = low; to = le-trans nx ny nh o high }),
+            clamped-stays ny (record { from = le-trans nl nx ny low o; to = high }),
+          ) o
 
 -- ---- a number in lo..1, and a floor
 
@@ -64,7 +69,8 @@ inside-number h = finite-number (h .finite)
 
 -- what fits and lies between two finite numbers is finite
 pub inside : {lo x : Float} → Finite binary32 lo → T (fits binary32 x) → Between lo 1f x → Inside lo x
-inside hl fx b = record { finite = record { fits = fx; finite = between-finite (hl .finite) (one-finite .finite) b }; between = b }
+inside hl fx b =
+    record { finite = record { fits = fx; finite = between-finite (hl .finite) (one-finite .finite) b }; between = b }
 
 pub zero-floor : Floor 0f
 unfolding le lt eq ofBits
@@ -72,17 +78,22 @@ zero-floor = record { finite = zero-finite; between = record { from = refl; to =
 
 -- a floor lies in the range that it is the floor of, and that range in 0..1
 pub floor-inside : {lo : Float} → Floor lo → Inside lo lo
-floor-inside h = record { finite = h .finite; between = record { from = le-refl (inside-number h); to = h .between .to } }
+floor-inside h =
+    record { finite = h .finite; between = record { from = le-refl (inside-number h); to = h .between .to } }
 
 pub inside-unit : {lo x : Float} → Floor lo → Inside lo x → Between 0f 1f x
-inside-unit h i = record { from = le-trans zero-number (inside-number h) (inside-number i) (h .between .from) (i .between .from); to = i .between .to }
+inside-unit h i = record {
+  from = le-trans zero-number (inside-number h) (inside-number i) (h .between .from) (i .between .from);
+  to = i .between .to;
+}
 
 -- held to that range, a finite number lies there
 clamped-inside : {lo x : Float} → Floor lo → Finite binary32 x → Inside lo (clamped x lo 1f)
 unfolding clamped
 clamped-inside {lo} {x} h hx =
     inside (h .finite)
-    (cond-fits binary32 (lt x lo) lo (cond (lt 1f x) 1f x) (h .finite .fits) (cond-fits binary32 (lt 1f x) 1f x (one-finite .fits) (hx .fits)))
+    (cond-fits binary32 (lt x lo) lo (cond (lt 1f x) 1f x) (h .finite .fits)
+    (cond-fits binary32 (lt 1f x) 1f x (one-finite .fits) (hx .fits)))
     (clamped-between (inside-number h) one-number (h .between .to) (finite-number hx))
 
 -- ---- treated and limited
@@ -90,7 +101,8 @@ clamped-inside {lo} {x} h hx =
 -- a treated number is finite
 pub treated-finite : (x : Float) → T (fits binary32 x) → Finite binary32 (treated x)
 unfolding treated
-treated-finite x h = by-test (Finite binary32) (finite x) (λ e. record { fits = h; finite = rw e tt }) (λ e. zero-finite)
+treated-finite x h =
+    by-test (Finite binary32) (finite x) (λ e. record { fits = h; finite = rw e tt }) (λ e. zero-finite)
 
 -- and a finite number stays as it is
 pub treated-stays : {x : Float} → Finite binary32 x → treated x ≡ x
@@ -108,7 +120,8 @@ limited-floor x h = clamped-inside zero-floor (treated-finite x h)
 pub clamp-inside : (x : Float) {lo : Float} → T (fits binary32 x) → Floor lo → Inside lo (floorClamp x lo)
 unfolding floorClamp
 clamp-inside x {lo} fx h =
-    by-test (Inside lo) (finite x) (λ e. clamped-inside h (record { fits = fx; finite = rw e tt })) (λ e. floor-inside h)
+    by-test (Inside lo) (finite x) (λ e. clamped-inside h (record { fits = fx; finite = rw e tt }))
+    (λ e. floor-inside h)
 
 -- of a finite number it is the number held to floor..1
 clamp-finite : {x : Float} → Finite binary32 x → (lo : Float) → floorClamp x lo ≡ clamped x lo 1f
@@ -117,7 +130,9 @@ clamp-finite {x} h lo = rw (is-true (finite x) (h .finite))
 
 -- so a number that lies there stays as it is
 pub clamp-stays : {x lo : Float} → Floor lo → Inside lo x → floorClamp x lo ≡ x
-clamp-stays {lo} h i = clamp-finite (i .finite) lo ∙ clamped-stays (inside-number h) one-number (h .between .to) (inside-number i) (i .between)
+clamp-stays {lo} h i =
+    clamp-finite (i .finite) lo
+    ∙ clamped-stays (inside-number h) one-number (h .between .to) (inside-number i) (i .between)
 
 -- what is under the floor gives the floor
 pub clamp-under : (x lo : Float) → lt x lo ≡ true → floorClamp x lo ≡ lo
@@ -125,9 +140,11 @@ unfolding floorClamp clamped
 clamp-under x lo e = by-test (λ m. m ≡ lo) (finite x) (λ g. rw e) (λ g. refl)
 
 -- and the order of finite numbers is kept (+infinity gives the floor, so that of all numbers is not)
-pub clamp-order : {x y lo : Float} → Floor lo → Finite binary32 x → Finite binary32 y → le x y ≡ true → le (floorClamp x lo) (floorClamp y lo) ≡ true
+pub clamp-order : {x y lo : Float} → Floor lo → Finite binary32 x → Finite binary32 y → le x y ≡ true
+    → le (floorClamp x lo) (floorClamp y lo) ≡ true
 clamp-order {lo} h hx hy o =
-    rw (clamp-finite hx lo, clamp-finite hy lo) (clamped-order (inside-number h) one-number (h .between .to) (finite-number hx) (finite-number hy) o)
+    rw (clamp-finite hx lo, clamp-finite hy lo)
+    (clamped-order (inside-number h) one-number (h .between .to) (finite-number hx) (finite-number hy) o)
 
 -- at +0 it is the limiting to 0..1 that document 01 has at the end of `MixerN`'s mix
 pub clamp-at-zero : (x : Float) → floorClamp x 0f ≡ limited x
@@ -152,6 +169,8 @@ unfolding delta
 delta-finite r p y row = treated-finite _ (add-fits binary32 _ _)
 
 -- the collective of thrust-floor and priority is one of two numbers in 0..1
-pub collective-floor : (thrust floor : Float) → T (fits binary32 thrust) → T (fits binary32 floor) → Floor (collective thrust floor)
+pub collective-floor : (thrust floor : Float) → T (fits binary32 thrust) → T (fits binary32 floor)
+    → Floor (collective thrust floor)
 unfolding lifted
-collective-floor thrust floor ft ff = by-test Floor (lt (limited thrust) (limited floor)) (λ e. limited-floor floor ff) (λ e. limited-floor thrust ft)
+collective-floor thrust floor ft ff =
+    by-test Floor (lt (limited thrust) (limited floor)) (λ e. limited-floor floor ff) (λ e. limited-floor thrust ft)

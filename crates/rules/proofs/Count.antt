@@ -14,7 +14,8 @@ use Rattle.rules.specs.Priority.{priorityMotors}
 use Rattle.rules.specs.Airmode.{unshifted, shifted, airmodeMotors}
 use Rattle.rules.specs.RotorOut.{motorsWithout, rotorOutMotors}
 
-pub plain-count : (rows : List Row) (torque : List Float) (thrust : Float) → length (plainMotors rows torque thrust) ≡ length rows
+pub plain-count : (rows : List Row) (torque : List Float) (thrust : Float)
+    → length (plainMotors rows torque thrust) ≡ length rows
 unfolding plainMotors lowerLimited lowered rawSums
 plain-count rows torque thrust = simp length-map
 
@@ -31,7 +32,8 @@ module _ (rows : List Row) (torque : List Float) (thrust floor : Float) where
   unfolding airmodeMotors shifted unshifted deltas
   airmode-count = simp length-map
 
-pub rotor-out-count : (failed : ℕ) (torque : List Float) (thrust floor : Float) → length (rotorOutMotors failed torque thrust floor) ≡ 4
+pub rotor-out-count : (failed : ℕ) (torque : List Float) (thrust floor : Float)
+    → length (rotorOutMotors failed torque thrust floor) ≡ 4
 unfolding rotorOutMotors motorsWithout quadRows
 rotor-out-count failed torque thrust floor = go (ltb failed 4) _ _ refl refl
   where

@@ -1,5 +1,5 @@
--- The numbers of the rows that document 01 and the code's tables write as decimals are the f32s that the standard has delivered for these decimals: 0.866 and 0.707 are
--- rounded, 0.5 is exact. Assumes nothing.
+-- The numbers of the rows that document 01 and the code's tables write as decimals are the f32s that the standard has
+-- delivered for these decimals: 0.866 and 0.707 are rounded, 0.5 is exact. Assumes nothing.
 use mathlib.Core.Path.{refl}
 use lib.IntN.{pos, negsuc}
 use lib.Ieee.{binary32, round, ofBits}

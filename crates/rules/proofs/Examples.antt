@@ -1,6 +1,7 @@
--- The promises that ask something of a command can be met. Those of `fitting`, in each of the three mixes that make one: two commands to the quad fit. One
--- has sums that are no f32, so that they have to be rounded; the other has sums at both ends of the range. That of `quadX`: a third command has no raw sum of
--- +infinity, and yet two that treating changes, and one over 1, so that all are lowered. And `fitting` by itself rules out document 01's "all motors at the
+-- The promises that ask something of a command can be met. Those of `fitting`, in each of the three mixes that make
+-- one: two commands to the quad fit. One has sums that are no f32, so that they have to be rounded; the other has sums
+-- at both ends of the range. That of `quadX`: a third command has no raw sum of +infinity, and yet two that treating
+-- changes, and one over 1, so that all are lowered. And `fitting` by itself rules out document 01's "all motors at the
 -- floor", in each of the three mixes. Assumes nothing.
 use mathlib.Core.Path.{_≡_, refl, sym, _∙_, subst}
 use mathlib.Core.Bool.{Bool, true, false, not, _&&_}
@@ -43,11 +44,13 @@ record Command : Type 0 where
 
 -- roll and yaw 2 ^ -26, thrust 1 - 2 ^ -24, floor 0.25
 between-numbers : Command
-between-numbers = record { rollBits = 0x3280_0000; yawBits = 0x3280_0000; thrustBits = 0x3f7f_ffff; floorBits = 0x3e80_0000 }
+between-numbers =
+    record { rollBits = 0x3280_0000; yawBits = 0x3280_0000; thrustBits = 0x3f7f_ffff; floorBits = 0x3e80_0000 }
 
 -- roll 0.25, yaw 0.125, thrust 0.625, floor 0.25
 at-the-ends : Command
-at-the-ends = record { rollBits = 0x3e80_0000; yawBits = 0x3e00_0000; thrustBits = 0x3f20_0000; floorBits = 0x3e80_0000 }
+at-the-ends =
+    record { rollBits = 0x3e80_0000; yawBits = 0x3e00_0000; thrustBits = 0x3f20_0000; floorBits = 0x3e80_0000 }
 
 commands : List Command
 commands = between-numbers ∷ at-the-ends ∷ []
@@ -99,15 +102,18 @@ module _ {A : Type 0} where
   allTrue test [] = true
   allTrue test (a ∷ l) = test a && allTrue test l
 
-  each-passes : (P : A → Type 0) (test : A → Bool) → ((a : A) → T (test a) → P a) → (l : List A) → T (allTrue test l) → Each P l
+  each-passes : (P : A → Type 0) (test : A → Bool) → ((a : A) → T (test a) → P a) → (l : List A)
+      → T (allTrue test l) → Each P l
   unfolding allTrue
   each-passes P test sound [] t = tt
-  each-passes P test sound (a ∷ l) t = (sound a (and-l (test a) (allTrue test l) t), each-passes P test sound l (and-r (test a) (allTrue test l) t))
+  each-passes P test sound (a ∷ l) t =
+      (sound a (and-l (test a) (allTrue test l) t), each-passes P test sound l (and-r (test a) (allTrue test l) t))
 
 rangeTest : Command → Sum → Bool
 rangeTest c s =
     let exact = exactSum (s .first) (s .second) in
-    finite (s .first) && (finite (s .second) && (leZ (wholeOf binary32 (limited (floor c))) exact && leZ exact (wholeOf binary32 1f)))
+    finite (s .first)
+    && (finite (s .second) && (leZ (wholeOf binary32 (limited (floor c))) exact && leZ exact (wholeOf binary32 1f)))
 
 in-range : (c : Command) (s : Sum) → T (rangeTest c s) → InRange c s
 unfolding rangeTest
@@ -139,13 +145,17 @@ rotors-fit c t =
     let each = each-passes At _ (λ row. each-passes (InRange c) (rangeTest c) (in-range c) (sumsAt c row)) quadRows t in
     record {
       thrust-floor = each-map At (SumWithin (limited (floor c)) 1f (base c)) (whole c) (λ row w. w .0) quadRows each;
-      airmode = each-map At (SumWithin (limited (floor c)) 1f (limited (thrust c))) (whole c) (λ row w. w .1 .0) quadRows each;
-      priority = each-map At (λ row. FitsBothOrders (floor c) (base c) (rollPitchPart c row) (yawPart c row)) (λ row. row)
+      airmode =
+          each-map At (SumWithin (limited (floor c)) 1f (limited (thrust c))) (whole c)
+          (λ row w. w .1 .0) quadRows each;
+      priority =
+          each-map At (λ row. FitsBothOrders (floor c) (base c) (rollPitchPart c row) (yawPart c row)) (λ row. row)
           (λ row w. record { yawLast = w .1 .1 .0; rollPitchLast = w .1 .1 .1 .0 }) quadRows each;
     }
 
 they-fit : Each FitsEach commands
-unfolding commands between-numbers at-the-ends allTrue rangeTest rotorsTest sumsAt add mul neg lt ofBits exactSum wholeOf over under negative magnitude treated clamped limited lifted quadRows delta yawGroup rollPitchGroup
+unfolding commands between-numbers at-the-ends allTrue rangeTest rotorsTest sumsAt add mul neg lt ofBits exactSum
+    wholeOf over under negative magnitude treated clamped limited lifted quadRows delta yawGroup rollPitchGroup
 they-fit = each-passes FitsEach rotorsTest rotors-fit commands tt
 
 -- ---- the second reaches both ends of the range
@@ -162,7 +172,8 @@ abbrev Reach : Row → Float → Type 0
 Reach row end = Each (λ s. exactSum (s .first) (s .second) ≡ wholeOf binary32 end) (sumsAt at-the-ends row)
 
 reach-the-ends : Reach M4 1f × Reach M1 (floor at-the-ends)
-unfolding sumsAt M1 M4 at-the-ends add mul neg lt ofBits exactSum wholeOf over under negative magnitude treated clamped limited lifted quadRows delta yawGroup rollPitchGroup
+unfolding sumsAt M1 M4 at-the-ends add mul neg lt ofBits exactSum wholeOf over under negative magnitude treated
+    clamped limited lifted quadRows delta yawGroup rollPitchGroup
 reach-the-ends = ((refl, (refl, (refl, (refl, tt)))), (refl, (refl, (refl, (refl, tt)))))
 
 -- ---- all motors at the floor do not keep what is promised of the second command: its M4 is to be at 1
@@ -171,25 +182,30 @@ floors : List Float
 floors = replicate 4 (floor at-the-ends)
 
 -- 0.25 is not the exact sum of M4, rounded
-too-low : Each (λ s. T (not (eq (floor at-the-ends) (rounding binary32 (exactSum (s .first) (s .second)) 1)))) (sumsAt at-the-ends M4)
-unfolding sumsAt M4 at-the-ends add mul neg lt eq ofBits round rounding exactSum wholeOf over under negative magnitude treated clamped limited lifted quadRows delta yawGroup rollPitchGroup
+too-low : Each (λ s. T (not (eq (floor at-the-ends) (rounding binary32 (exactSum (s .first) (s .second)) 1))))
+    (sumsAt at-the-ends M4)
+unfolding sumsAt M4 at-the-ends add mul neg lt eq ofBits round rounding exactSum wholeOf over under negative magnitude
+    treated clamped limited lifted quadRows delta yawGroup rollPitchGroup
 too-low = (tt, (tt, (tt, (tt, tt))))
 
 abbrev Kept : (List Row → List Float → Float → Float → List Float → Type 0) → Type 0
 Kept Keeps = Keeps quadRows (torque at-the-ends) (thrust at-the-ends) (floor at-the-ends) floors
 
-thrust-floor-gives-more : (scale : Float) → Kept (λ rows torque thrust floor motors. ThrustFloorKeeps rows torque thrust floor motors scale) → ⊥
+thrust-floor-gives-more : (scale : Float)
+    → Kept (λ rows torque thrust floor motors. ThrustFloorKeeps rows torque thrust floor motors scale) → ⊥
 unfolding commands floors sumsAt M4 deltas quadRows
 thrust-floor-gives-more scale keeps =
     subst (λ b. T (not b)) (keeps .fitting (they-fit .1 .0 .thrust-floor) .0 .1 .1 .1 .0 .once) (too-low .0)
 
 airmode-gives-more : Kept AirmodeKeeps → ⊥
 unfolding commands floors sumsAt M4 deltas quadRows
-airmode-gives-more keeps = subst (λ b. T (not b)) (keeps .fitting (they-fit .1 .0 .airmode) .1 .1 .1 .0 .once) (too-low .1 .0)
+airmode-gives-more keeps =
+    subst (λ b. T (not b)) (keeps .fitting (they-fit .1 .0 .airmode) .1 .1 .1 .0 .once) (too-low .1 .0)
 
 priority-gives-more : Kept PriorityKeeps → ⊥
 unfolding commands floors sumsAt M4 quadRows
-priority-gives-more keeps = subst (λ b. T (not b)) (keeps .nearest (they-fit .1 .0 .priority) 3 (omega arith) .once) (too-low .1 .1 .0)
+priority-gives-more keeps =
+    subst (λ b. T (not b)) (keeps .nearest (they-fit .1 .0 .priority) 3 (omega arith) .once) (too-low .1 .1 .0)
 
 -- ---- the first has sums that are no f32
 
@@ -212,7 +228,8 @@ numberTest x = fits binary32 x && finite x
 
 finite-passes : (x : Float) → T (numberTest x) → Finite binary32 x
 unfolding numberTest
-finite-passes x t = record { fits = and-l (fits binary32 x) (finite x) t; finite = and-r (fits binary32 x) (finite x) t }
+finite-passes x t =
+    record { fits = and-l (fits binary32 x) (finite x) t; finite = and-r (fits binary32 x) (finite x) t }
 
 differTest : ℤ → ℤ → Bool
 differTest a b = not (leZ a b && leZ b a)
@@ -220,21 +237,26 @@ differTest a b = not (leZ a b && leZ b a)
 differ : (a b : ℤ) → T (differTest a b) → a ≡ b → ⊥
 unfolding differTest
 differ a b t e =
-    let same : T (leZ a b && leZ b a) = subst (λ (c : ℤ). T (leZ a c && leZ c a)) e (and-i (leZ a a) (leZ a a) (≤ℤ-refl a .le) (≤ℤ-refl a .le)) in
+    let same : T (leZ a b && leZ b a) =
+    subst (λ (c : ℤ). T (leZ a c && leZ c a)) e (and-i (leZ a a) (leZ a a) (≤ℤ-refl a .le) (≤ℤ-refl a .le)) in
     T-not (leZ a b && leZ b a) t same
 
 roundedTest : Sum → Bool
-roundedTest s = numberTest (s .first) && (numberTest (s .second) && differTest (wholeOf binary32 (s .first +f s .second)) (exactSum (s .first) (s .second)))
+roundedTest s =
+    numberTest (s .first) && (numberTest (s .second)
+    && differTest (wholeOf binary32 (s .first +f s .second)) (exactSum (s .first) (s .second)))
 
 no-number-passes : (s : Sum) → T (roundedTest s) → NoNumber s
 unfolding roundedTest
 no-number-passes s t =
     let rest = and-r (numberTest (s .first)) _ t in
-    no-number s (finite-passes (s .first) (and-l (numberTest (s .first)) _ t)) (finite-passes (s .second) (and-l (numberTest (s .second)) _ rest))
+    no-number s (finite-passes (s .first) (and-l (numberTest (s .first)) _ t))
+    (finite-passes (s .second) (and-l (numberTest (s .second)) _ rest))
     (differ _ _ (and-r (numberTest (s .second)) _ rest))
 
 are-rounded : Each NoNumber (sumsAt between-numbers M4)
-unfolding allTrue roundedTest numberTest differTest sumsAt M4 between-numbers fits add mul neg lt ofBits exactSum wholeOf over under negative magnitude treated clamped limited lifted quadRows delta yawGroup rollPitchGroup
+unfolding allTrue roundedTest numberTest differTest sumsAt M4 between-numbers fits add mul neg lt ofBits exactSum
+    wholeOf over under negative magnitude treated clamped limited lifted quadRows delta yawGroup rollPitchGroup
 are-rounded = each-passes NoNumber roundedTest no-number-passes (sumsAt between-numbers M4) tt
 
 -- ---- the third command meets what `quadX` asks

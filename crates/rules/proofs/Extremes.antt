@@ -1,5 +1,6 @@
--- The largest and the least of some numbers. The walk only ever holds one of them, so that what holds of each holds of these two; and the largest of numbers,
--- none a NaN, is +infinity where one of them is. To put one more number first is to take the larger of it and their largest. Assumes nothing.
+-- The largest and the least of some numbers. The walk only ever holds one of them, so that what holds of each holds of
+-- these two; and the largest of numbers, none a NaN, is +infinity where one of them is. To put one more number first is
+-- to take the larger of it and their largest. Assumes nothing.
 use mathlib.Core.Path.{_≡_, refl, sym, ap, _∙_}
 use mathlib.Core.Bool.{Bool, true, false, not}
 use mathlib.Core.List.{List, [], _∷_}
@@ -65,12 +66,14 @@ unfolding walked
 walk-from-infinity [] = refl
 walk-from-infinity (x ∷ xs) = ap (λ (h : Float). walked larger h xs) (infinity-kept x) ∙ walk-from-infinity xs
 
-walk-to-infinity : (held : Float) (xs : List Float) → NoNan held → Each NoNan xs → (i : ℕ) → getD xs i nan ≡ inf false → walked larger held xs ≡ inf false
+walk-to-infinity : (held : Float) (xs : List Float) → NoNan held → Each NoNan xs → (i : ℕ) → getD xs i nan ≡ inf false
+    → walked larger held xs ≡ inf false
 unfolding walked
 walk-to-infinity held [] n w i e = cc
 walk-to-infinity held (x ∷ xs) n w zero e =
     ap (λ (h : Float). walked larger h xs) (ap (larger held) e ∙ infinity-taken held n) ∙ walk-from-infinity xs
-walk-to-infinity held (x ∷ xs) n w (suc i) e = walk-to-infinity (larger held x) xs (larger-is NoNan held x n (w .0)) (w .1) i e
+walk-to-infinity held (x ∷ xs) n w (suc i) e =
+    walk-to-infinity (larger held x) xs (larger-is NoNan held x n (w .0)) (w .1) i e
 
 pub largest-infinite : (xs : List Float) → Each NoNan xs → (i : ℕ) → getD xs i nan ≡ inf false → largest xs ≡ inf false
 unfolding best
@@ -82,7 +85,8 @@ largest-infinite (x ∷ xs) w (suc i) e = walk-to-infinity x xs (w .0) (w .1) i 
 
 module _ {f : Format} where
   -- of three numbers it does not matter which two are compared first
-  larger-of-three : {a b c : Float} → Number f a → Number f b → Number f c → larger a (larger b c) ≡ larger (larger a b) c
+  larger-of-three : {a b c : Float} → Number f a → Number f b → Number f c
+      → larger a (larger b c) ≡ larger (larger a b) c
   unfolding larger
   larger-of-three {a} {b} {c} na nb nc = go (lt a b) (lt b c) refl refl
     where

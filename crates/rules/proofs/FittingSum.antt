@@ -1,5 +1,6 @@
--- Where the exact sum of two numbers lies in lo..1, a number that is this sum rounded once lies there too: rounding keeps the order, and the two ends are
--- their own roundings. So it is finite, and the floor clamp leaves it as it is; and the fit scale of rotors that all have such sums is 1. Assumes nothing.
+-- Where the exact sum of two numbers lies in lo..1, a number that is this sum rounded once lies there too: rounding
+-- keeps the order, and the two ends are their own roundings. So it is finite, and the floor clamp leaves it as it is;
+-- and the fit scale of rotors that all have such sums is 1. Assumes nothing.
 use mathlib.Core.Path.{_≡_, ap, _∙_}
 use mathlib.Core.List.{List, map}
 use Prim.Native.Nat.{_+_, _≤_}
@@ -56,7 +57,9 @@ fitted {lo} {x} {y} {z} l w r =
     rounded-order (own-rounding (l .finite)) r (pow-pos 0) (pow-pos 0) (omega (arith, sum-at-least w)) in
     let below : over binary32 z + under binary32 1f ≤ over binary32 1f + under binary32 z =
     rounded-order r (own-rounding one-finite) (pow-pos 0) (pow-pos 0) (omega (arith, sum-at-most w)) in
-    let within = inside (l .finite) (n .fits) (record { from = units-le (inside-number l) n above; to = units-le n one-number below }) in
+    let within =
+    inside (l .finite) (n .fits)
+    (record { from = units-le (inside-number l) n above; to = units-le n one-number below }) in
     let exact = sum-of (whole-difference binary32 x) (whole-difference binary32 y) in
     let standard = delivered-nearest (within .finite .finite) (rounds-to r exact (pow-pos 0)) in
     record {
@@ -66,7 +69,8 @@ fitted {lo} {x} {y} {z} l w r =
     }
 
 -- the sum that the operation gives is one
-pub fitting-sum : {lo x y : Float} → Floor lo → T (fits binary32 x) → T (fits binary32 y) → SumWithin lo 1f x y → Fitted lo x y (x +f y)
+pub fitting-sum : {lo x y : Float} → Floor lo → T (fits binary32 x) → T (fits binary32 y) → SumWithin lo 1f x y
+    → Fitted lo x y (x +f y)
 fitting-sum {x} {y} l fx fy w =
     let hx : Finite binary32 x = record { fits = fx; finite = w .first } in
     let hy : Finite binary32 y = record { fits = fy; finite = w .second } in
@@ -76,6 +80,8 @@ fitting-sum {x} {y} l fx fy w =
 
 pub fitting-scale : {lo : Float} → Floor lo → (P : Row → Type 0) (b d : Row → Float)
     → ((row : Row) → T (fits binary32 (b row))) → ((row : Row) → T (fits binary32 (d row)))
-    → ((row : Row) → P row → SumWithin lo 1f (b row) (d row)) → (rows : List Row) → Each P rows → fitScale lo (map b rows) (map d rows) ≡ 1f
+    → ((row : Row) → P row → SumWithin lo 1f (b row) (d row)) → (rows : List Row) → Each P rows
+    → fitScale lo (map b rows) (map d rows) ≡ 1f
 fitting-scale {lo} l P b d fb fd k rows w =
-    scale-fitting lo (map b rows) (map d rows) (l .finite) (map-fits b fb rows) (map-fits d fd rows) (each-motor P (SumWithin lo 1f) b d k rows w)
+    scale-fitting lo (map b rows) (map d rows) (l .finite) (map-fits b fb rows) (map-fits d fd rows)
+    (each-motor P (SumWithin lo 1f) b d k rows w)

@@ -1,4 +1,5 @@
--- What the floor of a command counts as, for the person who signs: the promises speak of the limited floor, and this says what that is for every f32. Assumes nothing.
+-- What the floor of a command counts as, for the person who signs: the promises speak of the limited floor, and this
+-- says what that is for every f32. Assumes nothing.
 use mathlib.Core.Path.{_≡_, refl}
 use mathlib.Core.Bool.{true, false}
 use lib.Dec.{T}
@@ -30,12 +31,14 @@ zero-stays = refl
 
 pub floor-counts : (floor : Float) → T (fits binary32 floor) → FloorCounts floor
 unfolding limited treated clamped
-floor-counts x h = record { in-range = in-range; not-finite = λ e. rw e zero-stays; negative = negative; over-one = over-one }
+floor-counts x h =
+    record { in-range = in-range; not-finite = λ e. rw e zero-stays; negative = negative; over-one = over-one }
   where
     in-range : Between 0f 1f x → limited x ≡ x
     in-range b =
         let i = inside zero-finite h b in
-        rw (treated-stays (i .finite)) (clamped-stays zero-number one-number (zero-floor .between .to) (inside-number i) b)
+        rw (treated-stays (i .finite))
+        (clamped-stays zero-number one-number (zero-floor .between .to) (inside-number i) b)
 
     negative : lt x 0f ≡ true → limited x ≡ 0f
     negative l = by-test (λ y. clamped y 0f 1f ≡ 0f) (finite x) (λ e. rw l) (λ e. zero-stays)
@@ -43,4 +46,8 @@ floor-counts x h = record { in-range = in-range; not-finite = λ e. rw e zero-st
     over-one : T (finite x) → lt 1f x ≡ true → limited x ≡ 1f
     over-one e l =
         let n = finite-number (record { fits = h; finite = e }) in
-        rw (is-true (finite x) e, not-over zero-number n (le-trans zero-number one-number n (zero-floor .between .to) (less-le 1f x l)), l)
+        rw (
+          is-true (finite x) e,
+          not-over zero-number n (le-trans zero-number one-number n (zero-floor .between .to) (less-le 1f x l)),
+          l,
+        )

@@ -13,17 +13,21 @@ use Rattle.rules.specs.Priority.{priorityMotors}
 use Rattle.rules.specs.Airmode.{airmodeMotors}
 use Rattle.rules.specs.RotorOut.{rotorOutMotors}
 use Rattle.rules.specs.Frame.{frameMotors}
-use Rattle.rules.specs.Promises.{PlainKeeps, ThrustFloorKeeps, PriorityKeeps, AirmodeKeeps, RotorOutKeeps, FrameKeeps}
-use Rattle.rules.proofs.Bounded.{thrust-floor-clamped, thrust-floor-scaled, priority-clamped, airmode-clamped, without-keeps, tilt-keeps}
+use Rattle.rules.specs.Promises.{PlainKeeps, ThrustFloorKeeps, PriorityKeeps}
+use Rattle.rules.specs.Promises.{AirmodeKeeps, RotorOutKeeps, FrameKeeps}
+use Rattle.rules.proofs.Bounded.{thrust-floor-clamped, thrust-floor-scaled, priority-clamped}
+use Rattle.rules.proofs.Bounded.{airmode-clamped, without-keeps, tilt-keeps}
 use Rattle.rules.proofs.Ordered.{thrust-floor-ordered}
 use Rattle.rules.proofs.ThrustFloorFitting.{thrust-floor-fitting}
 use Rattle.rules.proofs.PriorityFitting.{priority-fitting, priority-nearest}
 use Rattle.rules.proofs.AirmodeFitting.{airmode-fitting}
-use Rattle.rules.proofs.Plain.{plain-no-nan, plain-overflowed, plain-attained, plain-to-one, plain-unit, frame-unit}
+use Rattle.rules.proofs.Plain.{plain-no-nan, plain-overflowed, plain-attained}
+use Rattle.rules.proofs.Plain.{plain-to-one, plain-unit, frame-unit}
 use Rattle.rules.proofs.QuadX.{quad-x-agrees}
 
 -- the plain mix, of the quad; the torque's numbers are f32s, and so is the thrust
-pub plain-keeps : (torque : List Float) (thrust : Float) → ((k : ℕ) → T (fits binary32 (getD torque k nan))) → T (fits binary32 thrust)
+pub plain-keeps : (torque : List Float) (thrust : Float) → ((k : ℕ) → T (fits binary32 (getD torque k nan)))
+    → T (fits binary32 thrust)
     → PlainKeeps torque thrust (plainMotors quadRows torque thrust)
 plain-keeps torque thrust fs ft = record {
   unit = plain-unit quadRows torque thrust;
@@ -38,10 +42,12 @@ pub rotor-out-keeps : (failed : ℕ) (torque : List Float) (thrust floor : Float
     → RotorOutKeeps failed floor (rotorOutMotors failed torque thrust floor)
 unfolding rotorOutMotors
 rotor-out-keeps failed torque thrust floor ff =
-    by-test (RotorOutKeeps failed floor) (ltb failed 4) (λ e. without-keeps failed floor _ _ ff) (λ e. tilt-keeps failed floor _ _ _ ff (ltb-false failed 4 e))
+    by-test (RotorOutKeeps failed floor) (ltb failed 4) (λ e. without-keeps failed floor _ _ ff)
+    (λ e. tilt-keeps failed floor _ _ _ ff (ltb-false failed 4 e))
 
 -- the mix of any frame, `MixerN`'s; the torque's numbers are f32s, and so is the thrust
-pub frame-keeps : (rows : List Row) (torque : List Float) (thrust : Float) → ((k : ℕ) → T (fits binary32 (getD torque k nan))) → T (fits binary32 thrust)
+pub frame-keeps : (rows : List Row) (torque : List Float) (thrust : Float)
+    → ((k : ℕ) → T (fits binary32 (getD torque k nan))) → T (fits binary32 thrust)
     → FrameKeeps rows torque thrust (frameMotors rows torque thrust)
 frame-keeps rows torque thrust fs ft = record {
   unit = frame-unit rows torque thrust;
@@ -49,8 +55,10 @@ frame-keeps rows torque thrust fs ft = record {
 }
 
 -- the mixes of any frame; the thrust and the floor are f32s
-module _ (rows : List Row) (torque : List Float) (thrust floor : Float) (ft : T (fits binary32 thrust)) (ff : T (fits binary32 floor)) where
-  pub thrust-floor-keeps : ThrustFloorKeeps rows torque thrust floor (thrustFloorMotors rows torque thrust floor) (thrustFloorScale rows torque thrust floor)
+module _ (rows : List Row) (torque : List Float) (thrust floor : Float) (ft : T (fits binary32 thrust))
+    (ff : T (fits binary32 floor)) where
+  pub thrust-floor-keeps : ThrustFloorKeeps rows torque thrust floor (thrustFloorMotors rows torque thrust floor)
+      (thrustFloorScale rows torque thrust floor)
   thrust-floor-keeps =
       let clamped = thrust-floor-clamped rows torque thrust floor ff in
       record {
@@ -74,4 +82,8 @@ module _ (rows : List Row) (torque : List Float) (thrust floor : Float) (ft : T 
   pub airmode-keeps : AirmodeKeeps rows torque thrust floor (airmodeMotors rows torque thrust floor)
   airmode-keeps =
       let clamped = airmode-clamped rows torque thrust floor ff in
-      record { bounded = clamped .bounded; unit = clamped .unit; fitting = airmode-fitting rows torque thrust floor ft ff }
+      record {
+        bounded = clamped .bounded;
+        unit = clamped .unit;
+        fitting = airmode-fitting rows torque thrust floor ft ff;
+      }

@@ -1,6 +1,7 @@
--- From the general to the particular: runs, rows and their decimals, sums; how many motors a mix answers; clamping, what a floor counts as, and
--- the extremes; then what each mix promises (`specs/Promises.antt`), a file a promise; `Keeps` has each mix's promises whole, `Examples` shows
--- that they can be met, and `Figures` has the starred bench figures.
+-- From the general to the particular: runs, rows and their decimals, sums; how many motors a mix answers; clamping,
+-- what a floor counts as, and the extremes; then what each mix promises (`specs/Promises.antt`), a file a promise;
+-- `Keeps` has each mix's promises whole, `Examples` shows that they can be met, and `Figures` has the starred bench
+-- figures.
 pub mod EachMotor
 pub mod Runs
 pub mod Rows

@@ -1,6 +1,7 @@
--- `quad_x` agrees with plain (document 01, 'Any airframe'): "`quad_x` agrees in its first four, by bits, with plain whenever no raw sum of plain is +infinity."
--- It is a law of any frame with further rows: no raw sum of the frame is a NaN or +infinity, and the treated sum of no further row is over 1. Treating then
--- changes -infinity alone, to +0, and neither that nor the further sums change by how much all are lowered. Assumes nothing.
+-- `quad_x` agrees with plain (document 01, 'Any airframe'): "`quad_x` agrees in its first four, by bits, with plain
+-- whenever no raw sum of plain is +infinity." It is a law of any frame with further rows: no raw sum of the frame is a
+-- NaN or +infinity, and the treated sum of no further row is over 1. Treating then changes -infinity alone, to +0, and
+-- neither that nor the further sums change by how much all are lowered. Assumes nothing.
 use mathlib.Core.Path.{_≡_, refl, sym, ap, _∙_}
 use mathlib.Core.Bool.{Bool, true, false}
 use mathlib.Core.List.{List, [], _∷_, _++_, map, map-map}
@@ -70,7 +71,8 @@ lowered-from-one most x = go (lt 1f most) refl
     go false e = rw (e, not-over one-number one-number (le-refl one-number))
 
 -- so the motors may be made with the largest of 1 and the numbers
-limited-from-one : (xs : List Float) → Each (Number binary32) xs → lowerLimited xs ≡ map (λ x. motorOf (largest (1f ∷ xs)) x) xs
+limited-from-one : (xs : List Float) → Each (Number binary32) xs
+    → lowerLimited xs ≡ map (λ x. motorOf (largest (1f ∷ xs)) x) xs
 unfolding lowerLimited lowered
 limited-from-one [] ns = refl
 limited-from-one (x ∷ xs) ns = rw (map-map, largest-with-first x xs one-number ns) (simp lowered-from-one)
@@ -89,12 +91,14 @@ one-from-one = record { number = one-number; from = le-refl one-number }
 larger-from-one : {held x : Float} → FromOne held → Number binary32 x → FromOne (larger held x)
 unfolding larger
 larger-from-one {held} {x} h n =
-    by-test FromOne (lt held x) (λ e. record { number = n; from = le-trans one-number (h .number) n (h .from) (less-le held x e) }) (λ e. h)
+    by-test FromOne (lt held x)
+    (λ e. record { number = n; from = le-trans one-number (h .number) n (h .from) (less-le held x e) }) (λ e. h)
 
 -- and what is not over 1 changes nothing
 kept : {held x : Float} → FromOne held → Number binary32 x → lt 1f x ≡ false → larger held x ≡ held
 unfolding larger
-kept {held} {x} h n e = rw (not-over n (h .number) (le-trans n one-number (h .number) (not-under one-number n e) (h .from)))
+kept {held} {x} h n e =
+    rw (not-over n (h .number) (le-trans n one-number (h .number) (not-under one-number n e) (h .from)))
 
 -- -infinity is not over 1, and is treated to +0
 least-not-over-one : lt 1f (inf true) ≡ false
@@ -109,7 +113,8 @@ treated-least = refl
 same-step : {held x : Float} → FromOne held → FiniteOrLeast x → larger held (treated x) ≡ larger held x
 same-step {held} h (is-finite k) = ap (larger held) (treated-stays k)
 same-step {held} h (is-least e) =
-    rw (e, treated-least) (kept h zero-number (not-over zero-number one-number (zero-floor .between .to)) ∙ sym (kept h least-number least-not-over-one))
+    rw (e, treated-least) (kept h zero-number (not-over zero-number one-number (zero-floor .between .to))
+    ∙ sym (kept h least-number least-not-over-one))
 
 -- ---- a motor is the same, too: -infinity gives +0, and so does the +0 that it is treated to
 
@@ -131,7 +136,8 @@ less-clamped : (d : Float) → Number binary32 d → lt 0f d ≡ true → floorC
 unfolding isNan floorClamp sub add neg ofBits
 less-clamped nan n l = absurd (n .number)
 less-clamped (inf s) n l = refl
-less-clamped (fin s m e) n l = clamp-under _ 0f (difference-under zero-finite (record { fits = n .fits; finite = tt }) l)
+less-clamped (fin s m e) n l =
+    clamp-under _ 0f (difference-under zero-finite (record { fits = n .fits; finite = tt }) l)
 
 -- so a motor whose treated sum is +0 gets +0, too
 zero-motor : (most : Float) → FiniteOrLeast most → motorOf most 0f ≡ 0f
@@ -154,19 +160,24 @@ module _ {A : Type 0} (sum : A → Float) where
   treatedSum a = treated (sum a)
 
   module _ (held : (a : A) → T (fits binary32 (sum a))) where
-    each-finite-or-least : (l : List A) → Each NoNan (map sum l) → Each NotInfinity (map sum l) → Each (λ a. FiniteOrLeast (sum a)) l
+    each-finite-or-least : (l : List A) → Each NoNan (map sum l) → Each NotInfinity (map sum l)
+        → Each (λ a. FiniteOrLeast (sum a)) l
     each-finite-or-least [] n i = tt
-    each-finite-or-least (a ∷ l) n i = (finite-or-least (sum a) (held a) (n .0) (i .0), each-finite-or-least l (n .1) (i .1))
+    each-finite-or-least (a ∷ l) n i =
+        (finite-or-least (sum a) (held a) (n .0) (i .0), each-finite-or-least l (n .1) (i .1))
 
     treated-number : (a : A) → Number binary32 (treatedSum a)
     treated-number a = finite-number (treated-finite (sum a) (held a))
 
     -- two walks that hold the same, 1 or more: over the treated sums of all, and over the raw sums of the frame
-    same-walk : {h : Float} → FromOne h → (l m : List A) → Each (λ a. FiniteOrLeast (sum a)) l → Each (λ a. lt 1f (treatedSum a) ≡ false) m
+    same-walk : {h : Float} → FromOne h → (l m : List A) → Each (λ a. FiniteOrLeast (sum a)) l
+        → Each (λ a. lt 1f (treatedSum a) ≡ false) m
         → walked larger h (map treatedSum (l ++ m)) ≡ walked larger h (map sum l)
     unfolding walked
     same-walk h [] [] ls ms = refl
-    same-walk h [] (a ∷ m) ls ms = ap (λ (g : Float). walked larger g (map treatedSum m)) (kept h (treated-number a) (ms .0)) ∙ same-walk h [] m tt (ms .1)
+    same-walk h [] (a ∷ m) ls ms =
+        ap (λ (g : Float). walked larger g (map treatedSum m)) (kept h (treated-number a) (ms .0))
+        ∙ same-walk h [] m tt (ms .1)
     same-walk h (a ∷ l) m ls ms =
         ap (λ (g : Float). walked larger g (map treatedSum (l ++ m))) (same-step h (ls .0))
         ∙ same-walk (larger-from-one h (number-of (ls .0))) l m (ls .1) ms
@@ -177,9 +188,11 @@ module _ {A : Type 0} (sum : A → Float) where
     unfolding best
     same-motors l m ls ms =
         let most = largest (1f ∷ map sum l) in
-        let most-is : FiniteOrLeast most = largest-is FiniteOrLeast 1f (map sum l) (is-finite one-finite, each-map _ FiniteOrLeast sum (λ a h. h) l ls) in
+        let most-is : FiniteOrLeast most =
+        largest-is FiniteOrLeast 1f (map sum l) (is-finite one-finite, each-map _ FiniteOrLeast sum (λ a h. h) l ls) in
         let raw = limited-from-one (map sum l) (each-map _ (Number binary32) sum (λ a h. number-of h) l ls) in
-        let all = limited-from-one (map treatedSum (l ++ m)) (each-mapped (Number binary32) treatedSum treated-number (l ++ m)) in
+        let all =
+        limited-from-one (map treatedSum (l ++ m)) (each-mapped (Number binary32) treatedSum treated-number (l ++ m)) in
         rw (raw, all, same-walk one-from-one l m ls ms) (simp (map-map, take-mapped)
         (each-same _ (λ a. motorOf most (treatedSum a)) (λ a. motorOf most (sum a)) (λ a h. same-motor most-is h) l ls))
 
@@ -193,7 +206,8 @@ unfolding frameMotors plainMotors rawSums rawSum
 frame-agrees rows more torque thrust n i z =
     let sum : Row → Float = rawSum (treated thrust) (roll torque) (pitch torque) (yaw torque) in
     let fit : (row : Row) → T (fits binary32 (sum row)) = λ row. add-fits binary32 _ _ in
-    rw map-map (same-motors sum fit rows more (each-finite-or-least sum fit rows n i) (each-of-map (λ x. lt 1f (treated x) ≡ false) sum more z))
+    rw map-map (same-motors sum fit rows more (each-finite-or-least sum fit rows n i)
+    (each-of-map (λ x. lt 1f (treated x) ≡ false) sum more z))
 
 -- ---- a row of +0 has a sum of zeros, which is not over 1
 
@@ -208,15 +222,21 @@ exact-zero-not-over-one : {z : Float} → Exactly binary32 z 0 → lt 1f (treate
 exact-zero-not-over-one {z} h =
     let n = finite-number (h .finite) in
     let low : le z 0f ≡ true = units-le n zero-number (omega (arith, zero-over, zero-under)) in
-    rw (treated-stays (h .finite)) (not-over n one-number (le-trans n zero-number one-number low (zero-floor .between .to)))
+    rw (treated-stays (h .finite))
+    (not-over n one-number (le-trans n zero-number one-number low (zero-floor .between .to)))
 
 -- ---- `quad_x`
 
-pub quad-x-agrees : (torque : List Float) (thrust : Float) → ((k : ℕ) → T (fits binary32 (getD torque k nan))) → T (fits binary32 thrust)
+pub quad-x-agrees : (torque : List Float) (thrust : Float) → ((k : ℕ) → T (fits binary32 (getD torque k nan)))
+    → T (fits binary32 thrust)
     → Each NotInfinity (rawSums quadRows torque thrust)
     → take 4 (frameMotors quadXRows torque thrust) ≡ plainMotors quadRows torque thrust
 unfolding quadRows quadXRows rawSums
 quad-x-agrees torque thrust fs ft i =
-    let torque-finite : (k : ℕ) → Finite binary32 (treated (getD torque k nan)) = λ k. treated-finite (getD torque k nan) (fs k) in
-    let zeros = exact-zero-not-over-one (zero-row (treated-finite thrust ft) (torque-finite 0) (torque-finite 1) (torque-finite 2)) in
-    frame-agrees quadRows (replicate 4 noRow) torque thrust (plain-no-nan torque thrust fs ft) i (zeros, (zeros, (zeros, (zeros, tt))))
+    let torque-finite : (k : ℕ) → Finite binary32 (treated (getD torque k nan)) =
+    λ k. treated-finite (getD torque k nan) (fs k) in
+    let zeros =
+    exact-zero-not-over-one
+    (zero-row (treated-finite thrust ft) (torque-finite 0) (torque-finite 1) (torque-finite 2)) in
+    frame-agrees quadRows (replicate 4 noRow) torque thrust (plain-no-nan torque thrust fs ft) i
+    (zeros, (zeros, (zeros, (zeros, tt))))

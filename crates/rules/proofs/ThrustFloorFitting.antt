@@ -1,5 +1,5 @@
--- The thrust-floor mix's `fitting`: where the collective plus each delta, taken exactly, lies in the range, the scale is exactly 1, so that each motor is that
--- sum, rounded once. Assumes nothing.
+-- The thrust-floor mix's `fitting`: where the collective plus each delta, taken exactly, lies in the range, the scale
+-- is exactly 1, so that each motor is that sum, rounded once. Assumes nothing.
 use mathlib.Core.Path.{_≡_}
 use mathlib.Core.List.{List, map, map-map}
 use lib.Dec.{T}
@@ -21,13 +21,15 @@ use Rattle.rules.proofs.FittingSum.{scale-one-first, fitting-sum, fitti
 
 -- ---- one base, and d is what is asked of a rotor
 
-module _ {lo base : Float} (l : Floor lo) (b : Finite binary32 base) (d : Row → Float) (hd : (row : Row) → Finite binary32 (d row)) where
+module _ {lo base : Float} (l : Floor lo) (b : Finite binary32 base) (d : Row → Float)
+    (hd : (row : Row) → Finite binary32 (d row)) where
   abbrev Fitting : Row → Type 0
   Fitting row = SumWithin lo 1f base (d row)
 
   one-scale : (rows : List Row) → Each Fitting rows → oneScale lo base (map d rows) ≡ 1f
   unfolding oneScale
-  one-scale rows w = rw map-map (fitting-scale l Fitting (λ row. base) d (λ row. b .fits) (λ row. hd row .fits) (λ row v. v) rows w)
+  one-scale rows w =
+      rw map-map (fitting-scale l Fitting (λ row. base) d (λ row. b .fits) (λ row. hd row .fits) (λ row v. v) rows w)
 
   fitting-motor : (row : Row) → Fitting row → SumRounded base (d row) (scaledMotor lo base 1f (d row))
   unfolding scaledMotor
@@ -35,7 +37,8 @@ module _ {lo base : Float} (l : Floor lo) (b : Finite binary32 base) (d : Row �
       let s = fitting-sum l (b .fits) (hd row .fits) v in
       rw (scale-one-first (d row) (hd row .fits), s .kept) (s .rounded)
 
-  fitting-motors : (rows : List Row) → Each Fitting rows → EachMotor (SumRounded base) (map d rows) (scaledMotors lo base (map d rows))
+  fitting-motors : (rows : List Row) → Each Fitting rows
+      → EachMotor (SumRounded base) (map d rows) (scaledMotors lo base (map d rows))
   unfolding scaledMotors
   fitting-motors rows w =
       rw (one-scale rows w, map-map)
@@ -43,7 +46,8 @@ module _ {lo base : Float} (l : Floor lo) (b : Finite binary32 base) (d : Row �
 
 -- ---- the mix
 
-pub thrust-floor-fitting : (rows : List Row) (torque : List Float) (thrust floor : Float) → T (fits binary32 thrust) → T (fits binary32 floor)
+pub thrust-floor-fitting : (rows : List Row) (torque : List Float) (thrust floor : Float) → T (fits binary32 thrust)
+    → T (fits binary32 floor)
     → Fits floor (collective thrust floor) (deltas rows torque)
     → EachMotor (SumRounded (collective thrust floor)) (deltas rows torque) (thrustFloorMotors rows torque thrust floor)
     × (thrustFloorScale rows torque thrust floor ≡ 1f)

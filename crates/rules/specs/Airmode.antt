@@ -1,4 +1,5 @@
--- The airmode mix (document 01, 'The five quad mixes', 4), over any frame. Definitions only; the quotations are document 01's.
+-- The airmode mix (document 01, 'The five quad mixes', 4), over any frame. Definitions only; the quotations are
+-- document 01's.
 use mathlib.Core.Bool.{_&&_, cond}
 use mathlib.Core.List.{List, map}
 use lib.Ieee.{Float, lt, neg}
@@ -28,6 +29,8 @@ shift idle lowest highest = cond (lt lowest idle) (idle -f lowest) (cond (lt 1f 
 unfoldable pub shifted : Float → List Float → List Float
 shifted idle xs = map (λ x. floorClamp (x +f shift idle (least xs) (largest xs)) idle) xs
 
--- "collective is t itself, even under the idle floor. Deltas as in 2." Thrust and idle are limited first ('Treating the numbers'; 000, 332-333).
+-- "collective is t itself, even under the idle floor. Deltas as in 2." Thrust and idle are limited first ('Treating the
+-- numbers'; 000, 332-333).
 unfoldable pub airmodeMotors : List Row → List Float → Float → Float → List Float
-airmodeMotors rows torque thrust idle = shifted (limited idle) (unshifted (limited idle) (limited thrust) (deltas rows torque))
+airmodeMotors rows torque thrust idle =
+    shifted (limited idle) (unshifted (limited idle) (limited thrust) (deltas rows torque))

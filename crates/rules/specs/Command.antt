@@ -1,5 +1,6 @@
--- What the mixes make of a command before any of them fits it to the motors: the treated torques, the collective, and what a torque asks of each rotor
--- (document 01, 'The five quad mixes'). A torque is the list of roll, pitch and yaw. Definitions only; the quotations are document 01's.
+-- What the mixes make of a command before any of them fits it to the motors: the treated torques, the collective, and
+-- what a torque asks of each rotor (document 01, 'The five quad mixes'). A torque is the list of roll, pitch and yaw.
+-- Definitions only; the quotations are document 01's.
 use mathlib.Core.Bool.{cond}
 use mathlib.Core.List.{List, map}
 use lib.ListN.{getD}
@@ -25,7 +26,8 @@ lifted t floor = cond (lt t floor) floor t
 abbrev pub collective : Float → Float → Float
 collective thrust floor = lifted (limited thrust) (limited floor)
 
--- "Delta: roll, pitch, yaw products summed, treated": what the torques r, p and y ask of the rotor of one row, and of each
+-- "Delta: roll, pitch, yaw products summed, treated": what the torques r, p and y ask of the rotor of one row, and of
+-- each
 unfoldable pub delta : Float → Float → Float → Row → Float
 delta r p y row = treated (rollOf row *f r +f pitchOf row *f p +f yawOf row *f y)
 

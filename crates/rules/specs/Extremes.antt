@@ -1,6 +1,7 @@
--- The largest and the least of some numbers, found by walking them in order: a number takes the place of the one held only if it is strictly larger, or
--- strictly smaller (document 01, 'The five quad mixes': "the largest", "largest minus least", "lowest", "highest"; that of two equal ones the first stays, which tells -0 from +0,
--- is the Rust's: 000, 153-158, 344-352). Definitions only.
+-- The largest and the least of some numbers, found by walking them in order: a number takes the place of the one held
+-- only if it is strictly larger, or strictly smaller (document 01, 'The five quad mixes': "the largest", "largest minus
+-- least", "lowest", "highest"; that of two equal ones the first stays, which tells -0 from +0, is the Rust's: 000,
+-- 153-158, 344-352). Definitions only.
 use mathlib.Core.Bool.{cond}
 use mathlib.Core.List.{List, [], _∷_}
 use lib.Ieee.{Float, lt}

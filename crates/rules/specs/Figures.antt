@@ -1,4 +1,5 @@
--- The starred bench figures (document 01, 'Bench figures') as one table: what a rule answers, and what the paper says. Definitions only.
+-- The starred bench figures (document 01, 'Bench figures') as one table: what a rule answers, and what the paper says.
+-- Definitions only.
 use mathlib.Core.Path.{_≡_}
 use mathlib.Core.List.{List, [], _∷_, _++_, map}
 use Prim.Native.Nat.{ℕ}
@@ -22,7 +23,8 @@ pub record Figure : Type 0 where
 
 -- the thrust-floor figures show the scale after the motors
 abbrev pub motorsAndScale : List Float → Float → Float → List Float
-motorsAndScale torque thrust floor = thrustFloorMotors quadRows torque thrust floor ++ (thrustFloorScale quadRows torque thrust floor ∷ [])
+motorsAndScale torque thrust floor =
+    thrustFloorMotors quadRows torque thrust floor ++ (thrustFloorScale quadRows torque thrust floor ∷ [])
 
 -- the numbers that the figures are made of
 abbrev 1/8 : Float
@@ -46,7 +48,8 @@ abbrev 2^127 : Float
 abbrev line : ℕ → List Float → List Float → Figure
 line n a p = record { number = n; answer = a; paper = p }
 
--- the table, y being the yaw of figure 11, which may be anything; of `quad_x`'s eight motors the paper has the first four
+-- the table, y being the yaw of figure 11, which may be anything; of `quad_x`'s eight motors the paper has the first
+-- four
 abbrev pub starred : Float → List Figure
 starred y =
     line 1 (plainMotors quadRows (1/4 ∷ 1/4 ∷ 0f ∷ []) 3/4) (1/2 ∷ 0f ∷ 1/2 ∷ 1f ∷ [])

@@ -1,4 +1,5 @@
--- The mix of 001 (document 01, 'Any airframe': "`Mixer` (001)"), and when it is refused. Definitions only; the quotations are document 01's.
+-- The mix of 001 (document 01, 'Any airframe': "`Mixer` (001)"), and when it is refused. Definitions only; the
+-- quotations are document 01's.
 use mathlib.Core.Bool.{Bool, not, _||_}
 use mathlib.Core.List.{List, map}
 use Prim.Native.Nat.{ℕ, _*_}

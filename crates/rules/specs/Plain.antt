@@ -1,4 +1,5 @@
--- The plain mix (document 01, 'The five quad mixes', 1), over any frame. Definitions only; the quotations are document 01's.
+-- The plain mix (document 01, 'The five quad mixes', 1), over any frame. Definitions only; the quotations are document
+-- 01's.
 use mathlib.Core.Bool.{cond}
 use mathlib.Core.List.{List, map}
 use lib.Ieee.{Float, lt}
@@ -16,7 +17,8 @@ rawSum t r p y row = thrustOf row *f t +f rollOf row *f r +f pitchOf row *f p +f
 unfoldable pub rawSums : List Row → List Float → Float → List Float
 rawSums rows torque thrust = map (rawSum (treated thrust) (roll torque) (pitch torque) (yaw torque)) rows
 
--- "If the largest is over 1, largest - 1 is taken from all": one number, given the largest. It is what 'Any airframe' calls "the plain shift".
+-- "If the largest is over 1, largest - 1 is taken from all": one number, given the largest. It is what 'Any airframe'
+-- calls "the plain shift".
 unfoldable pub loweredBy : Float → Float → Float
 loweredBy most x = cond (lt 1f most) (x -f (most -f 1f)) x
 

@@ -1,5 +1,6 @@
--- What the mixes promise of their motors (demand 3, whose text is in docs/STATEMENT.md, and document 01's claims on plain and on any airframe), in words that each is said in once.
--- Here `motors` and `scale` are what a function answers, and a frame is any list of rows. Definitions only; the quotations are demand 3's and document 01's.
+-- What the mixes promise of their motors (demand 3, whose text is in docs/STATEMENT.md, and document 01's claims on
+-- plain and on any airframe), in words that each is said in once. Here `motors` and `scale` are what a function
+-- answers, and a frame is any list of rows. Definitions only; the quotations are demand 3's and document 01's.
 use mathlib.Core.Path.{_≡_}
 use mathlib.Core.Bool.{true, false, not}
 use mathlib.Core.List.{List, [], _∷_, map}
@@ -37,8 +38,8 @@ NotInfinity x = x ≡ inf false → ⊥
 -- m is the exact sum of x and y "rounded once, zero's sign aside"
 pub record SumRounded (x y m : Float) : Type 0 where
   pub once : eq m (rounding binary32 (exactSum x y) 1) ≡ true
-  -- the same in the standard's words, which leave no other number: no f32 is nearer to the exact sum, and where another is as near, m is the one whose bit
-  -- pattern is even
+  -- the same in the standard's words, which leave no other number: no f32 is nearer to the exact sum, and where another
+  -- is as near, m is the one whose bit pattern is even
   pub nearest : Nearest binary32 (exactSum x y) 1 m
   pub even : TiesToEven binary32 (exactSum x y) 1 m
 
@@ -46,13 +47,16 @@ pub record SumRounded (x y m : Float) : Type 0 where
 abbrev pub Fits : Float → Float → List Float → Type 0
 Fits floor base ds = Each (SumWithin (limited floor) 1f base) ds
 
--- ordered: "a larger delta never gets a smaller motor". (Past the end of a list stands a NaN, which is in order with nothing.)
+-- ordered: "a larger delta never gets a smaller motor". (Past the end of a list stands a NaN, which is in order with
+-- nothing.)
 abbrev pub Ordered : List Float → List Float → Type 0
-Ordered ds motors = (i j : ℕ) → le (getD ds i nan) (getD ds j nan) ≡ true → le (getD motors i nan) (getD motors j nan) ≡ true
+Ordered ds motors =
+    (i j : ℕ) → le (getD ds i nan) (getD ds j nan) ≡ true → le (getD motors i nan) (getD motors j nan) ≡ true
 
 -- ---- the mixes
 
-pub record ThrustFloorKeeps (rows : List Row) (torque : List Float) (thrust floor : Float) (motors : List Float) (scale : Float) : Type 0 where
+pub record ThrustFloorKeeps (rows : List Row) (torque : List Float) (thrust floor : Float)
+    (motors : List Float) (scale : Float) : Type 0 where
   pub bounded : Bounded floor motors
   pub unit : InUnit motors
   pub scaled : Between 0f 1f scale
@@ -60,7 +64,8 @@ pub record ThrustFloorKeeps (rows : List Row) (torque : List Float) (thrust floo
       → EachMotor (SumRounded (collective thrust floor)) (deltas rows torque) motors × (scale ≡ 1f)
   pub ordered : Ordered (deltas rows torque) motors
 
--- a rotor's two groups fit in both orders: "collective plus one torque group, rounded, then plus the other exactly, lies there for both orders"
+-- a rotor's two groups fit in both orders: "collective plus one torque group, rounded, then plus the other exactly,
+-- lies there for both orders"
 pub record FitsBothOrders (floor base : Float) (rollPitch yaw : Float) : Type 0 where
   pub yawLast : SumWithin (limited floor) 1f (base +f rollPitch) yaw
   pub rollPitchLast : SumWithin (limited floor) 1f (base +f yaw) rollPitch
@@ -75,9 +80,11 @@ prioritySum torque thrust floor row = rollPitchSum torque thrust floor row +f ya
 -- the command fits: "for both orders and every motor"
 abbrev pub AllFitBothOrders : List Row → List Float → Float → Float → Type 0
 AllFitBothOrders rows torque thrust floor =
-    Each (λ row. FitsBothOrders floor (collective thrust floor) (rollPitchGroup (roll torque) (pitch torque) row) (yawGroup (yaw torque) row)) rows
+    Each (λ row. FitsBothOrders floor (collective thrust floor)
+    (rollPitchGroup (roll torque) (pitch torque) row) (yawGroup (yaw torque) row)) rows
 
-pub record PriorityKeeps (rows : List Row) (torque : List Float) (thrust floor : Float) (motors : List Float) : Type 0 where
+pub record PriorityKeeps (rows : List Row) (torque : List Float) (thrust floor : Float) (motors : List Float)
+    : Type 0 where
   pub bounded : Bounded floor motors
   pub unit : InUnit motors
   -- "each motor is collective plus roll/pitch plus yaw, rounded at each sum"
@@ -85,12 +92,15 @@ pub record PriorityKeeps (rows : List Row) (torque : List Float) (thrust floor :
   -- so each motor is a nearest f32 to (collective plus roll/pitch, rounded) plus yaw, exactly
   pub nearest : AllFitBothOrders rows torque thrust floor
       → (i : ℕ) → i < length rows
-      → SumRounded (rollPitchSum torque thrust floor (getD rows i noRow)) (yawGroup (yaw torque) (getD rows i noRow)) (getD motors i nan)
+      → SumRounded (rollPitchSum torque thrust floor (getD rows i noRow)) (yawGroup (yaw torque) (getD rows i noRow))
+      (getD motors i nan)
 
-pub record AirmodeKeeps (rows : List Row) (torque : List Float) (thrust idle : Float) (motors : List Float) : Type 0 where
+pub record AirmodeKeeps (rows : List Row) (torque : List Float) (thrust idle : Float) (motors : List Float)
+    : Type 0 where
   pub bounded : Bounded idle motors
   pub unit : InUnit motors
-  pub fitting : Fits idle (limited thrust) (deltas rows torque) → EachMotor (SumRounded (limited thrust)) (deltas rows torque) motors
+  pub fitting : Fits idle (limited thrust) (deltas rows torque)
+      → EachMotor (SumRounded (limited thrust)) (deltas rows torque) motors
 
 pub record RotorOutKeeps (failed : ℕ) (floor : Float) (motors : List Float) : Type 0 where
   -- "a lost rotor 0 to 3 being +0"

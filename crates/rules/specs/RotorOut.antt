@@ -1,4 +1,5 @@
--- The rotor-out mix (document 01, 'The five quad mixes', 5), of the quad alone. Definitions only; the quotations are document 01's.
+-- The rotor-out mix (document 01, 'The five quad mixes', 5), of the quad alone. Definitions only; the quotations are
+-- document 01's.
 use mathlib.Core.Bool.{cond}
 use mathlib.Core.List.{List, [], _∷_, map}
 use Prim.Native.Nat.{ℕ, _+_, _%_}
@@ -24,7 +25,8 @@ tilt x = clamped (treated x) (neg 8f) 8f
 
 -- ---- no rotor lost
 
--- "Rotor number 4 or more: floor clamp of treated t + roll + pitch products, no scaling, and t is not lifted to the floor first."
+-- "Rotor number 4 or more: floor clamp of treated t + roll + pitch products, no scaling, and t is not lifted to the
+-- floor first."
 unfoldable pub tiltMotor : Float → Float → Float → Float → Row → Float
 tiltMotor floor t r p row = floorClamp (treated (t +f rollOf row *f r +f pitchOf row *f p)) floor
 
@@ -37,7 +39,9 @@ healthy f = (f + 1) % 4 ∷ (f + 2) % 4 ∷ (f + 3) % 4 ∷ []
 -- what the healthy rotors' commands have to give: their sum, their roll and their pitch, an equation each
 unfoldable pub equations : ℕ → List (List Float)
 equations f =
-    map (λ i. 1f) (healthy f) ∷ map (λ i. rollOf (getD quadRows i [])) (healthy f) ∷ map (λ i. pitchOf (getD quadRows i [])) (healthy f) ∷ []
+    map (λ i. 1f) (healthy f)
+    ∷ map (λ i. rollOf (getD quadRows i [])) (healthy f)
+    ∷ map (λ i. pitchOf (getD quadRows i [])) (healthy f) ∷ []
 
 -- the three numbers of the healthy rotors put at their places, "with the lost rotor's base and delta 0"
 unfoldable pub placed : ℕ → List Float → List Float

@@ -1,12 +1,13 @@
--- Rows: what each of thrust, roll, pitch and yaw counts for one rotor (document 01, 'The five quad mixes': "Rows (thrust, roll, pitch, yaw)").
--- A frame is the list of its rotors' rows, and here are those of document 01. Definitions only; the quotations are document 01's.
+-- Rows: what each of thrust, roll, pitch and yaw counts for one rotor (document 01, 'The five quad mixes': "Rows
+-- (thrust, roll, pitch, yaw)"). A frame is the list of its rotors' rows, and here are those of document 01. Definitions
+-- only; the quotations are document 01's.
 use mathlib.Core.List.{List, [], _∷_, _++_}
 use Prim.Native.Nat.{ℕ}
 use lib.ListN.{getD, replicate}
 use lib.Ieee.{Float, nan, binary32, ofBits}
 use Rattle.binary32.specs.Arithmetic.{0f, 1f}
 
--- four numbers in this order (past a row's end a number is `nan`, which no row below comes to)
+-- four numbers in this order (past a row's end a number is `nan`, which no row here comes to)
 abbrev pub Row : Type 0
 Row = List Float
 
@@ -92,9 +93,12 @@ hexRows =
     ∷ (1f ∷ 1/2 ∷ 866/1000 ∷ 1f ∷ [])
     ∷ []
 
--- "octo_coax: (-0.707,0.707) yaw 1,-1; (0.707,-0.707) yaw 1,-1; (0.707,0.707) yaw -1,1; (-0.707,-0.707) yaw -1,1": four arms of two rotors each
+-- "octo_coax: (-0.707,0.707) yaw 1,-1; (0.707,-0.707) yaw 1,-1; (0.707,0.707) yaw -1,1; (-0.707,-0.707) yaw -1,1": four
+-- arms of two rotors each
 abbrev arm : Float → Float → Float → Float → List Row
 arm r p y₁ y₂ = (1f ∷ r ∷ p ∷ y₁ ∷ []) ∷ (1f ∷ r ∷ p ∷ y₂ ∷ []) ∷ []
 
 unfoldable pub octoRows : List Row
-octoRows = arm -707/1000 707/1000 1f -1f ++ arm 707/1000 -707/1000 1f -1f ++ arm 707/1000 707/1000 -1f 1f ++ arm -707/1000 -707/1000 -1f 1f
+octoRows =
+    arm -707/1000 707/1000 1f -1f ++ arm 707/1000 -707/1000 1f -1f
+    ++ arm 707/1000 707/1000 -1f 1f ++ arm -707/1000 -707/1000 -1f 1f

@@ -1,4 +1,5 @@
--- The thrust-floor mix (document 01, 'The five quad mixes', 2), over any frame. Definitions only; the quotations are document 01's.
+-- The thrust-floor mix (document 01, 'The five quad mixes', 2), over any frame. Definitions only; the quotations are
+-- document 01's.
 use mathlib.Core.List.{List, map}
 use lib.Ieee.{Float}
 use Rattle.binary32.specs.Arithmetic.{_+f_, _*f_}

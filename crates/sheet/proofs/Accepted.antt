@@ -13,9 +13,9 @@ use Rattle.refusals.proofs.First.{not-given, first-passed, entry-passed}
 use Rattle.entries.specs.Layout.{versionOf, countOf, lengthField, entryAt, kindOf, rotorOf, offsetOf, bodyAt}
 use Rattle.entries.specs.declared.choice.Choice.the-variants.{Refused}
 use Rattle.entries.specs.declared.refusal.Refusal.{Refusal}
-use Rattle.entries.specs.Refusal.{numberOf}
+use Rattle.entries.specs.Refusal.{refusalNumber}
 use Rattle.entries.specs.Choice.{choiceNumber, ChosenBy}
-use Rattle.entries.proofs.Answers.{never-accepted, chosen-refusal}
+use Rattle.entries.proofs.Chosen.{never-accepted, chosen-refusal}
 use Rattle.sheet.proofs.Entry.{same, entry-good}
 use Rattle.sheet.specs.Table.{entryNumber, maxEntries, headNumber, endNumber, entriesTold, judged}
 
@@ -39,7 +39,11 @@ good : (s : List ℕ) (i : ℕ) → entryNumber s i (bodyAt s i) ≡ accepted �
 unfolding choiceNumber
 good s i h =
     let (chosen, offset) = entry-good s i (bodyAt s i) h in
-    record { chosen = chosen; kind = ltb-false 4 (kindOf s i) (not-given (ltb 4 (kindOf s i)) 4 (first-passed _ _ chosen .0)); offset = offset }
+    record {
+      chosen = chosen;
+      kind = ltb-false 4 (kindOf s i) (not-given (ltb 4 (kindOf s i)) 4 (first-passed _ _ chosen .0));
+      offset = offset;
+    }
 
 -- ---- the entries, and the end
 
@@ -47,7 +51,8 @@ entries-good : (s : List ℕ) (i left : ℕ) → entriesTold s i left .number �
 unfolding entriesTold
 entries-good s i zero h j l = absurd (not-suc-le-zero l)
 entries-good s i (suc left) h zero l = rw add-zero (good s i (entry-passed _ _ _ h .0))
-entries-good s i (suc left) h (suc j) l = rw (add-suc, ← suc-add) (entries-good s (suc i) left (entry-passed _ _ _ h .1) j (le-of-suc-le-suc l))
+entries-good s i (suc left) h (suc j) l =
+    rw (add-suc, ← suc-add) (entries-good s (suc i) left (entry-passed _ _ _ h .1) j (le-of-suc-le-suc l))
 
 end-good : (s : List ℕ) (i left : ℕ) → entriesTold s i left .number ≡ accepted → endNumber s ≡ accepted
 unfolding entriesTold
@@ -64,7 +69,8 @@ is-accepted s h =
     let at-2 = first-passed _ _ (at-1 .1) in
     let at-3 = first-passed _ _ (at-2 .1) in
     let at-4 = first-passed _ _ (at-3 .1) in
-    let lengths = neither (not (eqb (lengthField s) (length s))) (ltb (length s) (entryAt (countOf s))) (not-given _ 3 (at-4 .0)) in
+    let lengths =
+    neither (not (eqb (lengthField s) (length s))) (ltb (length s) (entryAt (countOf s))) (not-given _ 3 (at-4 .0)) in
     record {
       version = same (versionOf s) 1 1 (at-2 .0);
       few = ltb-false maxEntries (countOf s) (not-given _ 2 (at-3 .0));
@@ -75,7 +81,8 @@ is-accepted s h =
     }
 
 -- none of its entries is refused by its kind or its rotor byte
-pub never-refused : {s : List ℕ} {i : ℕ} {r : Refusal} → Accepted s → i < countOf s → ChosenBy (kindOf s i) (rotorOf s i) (Refused r) → ⊥
+pub never-refused : {s : List ℕ} {i : ℕ} {r : Refusal} → Accepted s → i < countOf s
+    → ChosenBy (kindOf s i) (rotorOf s i) (Refused r) → ⊥
 never-refused {s} {i} {r} known under h =
-    let number : numberOf r ≡ accepted = sym (chosen-refusal h) ∙ known .entries i under .chosen in
-    eqb-false (numberOf r) accepted (never-accepted r) number
+    let number : refusalNumber r ≡ accepted = sym (chosen-refusal h) ∙ known .entries i under .chosen in
+    eqb-false (refusalNumber r) accepted (never-accepted r) number

@@ -1,4 +1,5 @@
--- The head of a sheet: which of refusals 1 to 4 applies, each where those before it do not, and what is told then. Assumes nothing.
+-- The head of a sheet: which of refusals 1 to 4 applies, each where those before it do not, and what is told then.
+-- Assumes nothing.
 use mathlib.Core.Path.{_≡_}
 use mathlib.Core.List.{List}
 use Prim.Native.Nat.{ℕ, _≤_, _<_}
@@ -7,15 +8,15 @@ use borrow.Author.Tests.{lt-ltb, le-ltb, eq-eqb, ne-eqb}
 use Rattle.refusals.specs.Numbers.{accepted, tooShort, badVersion, tooMany, badLength}
 use Rattle.refusals.specs.Told.{first, alone, atEntry}
 use Rattle.entries.specs.declared.refusal.Refusal.{Refusal}
-use Rattle.entries.specs.Refusal.{numberOf}
-use Rattle.entries.proofs.Answers.{never-accepted}
+use Rattle.entries.specs.Refusal.{refusalNumber}
+use Rattle.entries.proofs.Chosen.{never-accepted}
 use Rattle.entries.specs.Layout.{versionOf, countOf, lengthField, entryAt}
 use Rattle.sheet.specs.Table.{maxEntries, headNumber, entriesTold, judged}
 
 module _ (s : List ℕ) where
   -- ---- what is told
 
-  pub told-of-head : (r : Refusal) → headNumber s ≡ numberOf r → judged s ≡ alone (numberOf r)
+  pub told-of-head : (r : Refusal) → headNumber s ≡ refusalNumber r → judged s ≡ alone (refusalNumber r)
   unfolding judged atEntry
   told-of-head r h = rw (h, never-accepted r)
 
@@ -42,13 +43,30 @@ module _ (s : List ℕ) where
       module _ (few : countOf s ≤ maxEntries) where
         pub length-differs : (lengthField s ≡ length s → ⊥) → headNumber s ≡ badLength
         unfolding headNumber first
-        length-differs d = rw (le-ltb (length s) 4, eq-eqb (versionOf s) 1, le-ltb maxEntries (countOf s), ne-eqb (lengthField s) (length s))
+        length-differs d = rw (
+          le-ltb (length s) 4,
+          eq-eqb (versionOf s) 1,
+          le-ltb maxEntries (countOf s),
+          ne-eqb (lengthField s) (length s),
+        )
 
         module _ (same : lengthField s ≡ length s) where
           pub contents-cut : length s < entryAt (countOf s) → headNumber s ≡ badLength
           unfolding headNumber first
-          contents-cut h = rw (le-ltb (length s) 4, eq-eqb (versionOf s) 1, le-ltb maxEntries (countOf s), eq-eqb (lengthField s) (length s), lt-ltb (length s) (entryAt (countOf s)))
+          contents-cut h = rw (
+            le-ltb (length s) 4,
+            eq-eqb (versionOf s) 1,
+            le-ltb maxEntries (countOf s),
+            eq-eqb (lengthField s) (length s),
+            lt-ltb (length s) (entryAt (countOf s)),
+          )
 
           pub head-passes : entryAt (countOf s) ≤ length s → headNumber s ≡ accepted
           unfolding headNumber first
-          head-passes h = rw (le-ltb (length s) 4, eq-eqb (versionOf s) 1, le-ltb maxEntries (countOf s), eq-eqb (lengthField s) (length s), le-ltb (length s) (entryAt (countOf s)))
+          head-passes h = rw (
+            le-ltb (length s) 4,
+            eq-eqb (versionOf s) 1,
+            le-ltb maxEntries (countOf s),
+            eq-eqb (lengthField s) (length s),
+            le-ltb (length s) (entryAt (countOf s)),
+          )

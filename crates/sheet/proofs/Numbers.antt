@@ -1,11 +1,13 @@
--- The numbers that a sheet by itself can be told, just these, and that 9, which is about an output, is none of them. Assumes nothing.
+-- The numbers that a sheet by itself can be told, just these, and that 9, which is about an output, is none of them.
+-- Assumes nothing.
 use mathlib.Core.Path.{_≡_, refl, subst}
 use mathlib.Core.Bool.{Bool, false, not, _&&_, _||_}
 use mathlib.Core.List.{List, [], _∷_, map}
 use Prim.Native.Nat.{ℕ, zero, suc}
 use lib.Dec.{T, ltb, eqb}
 use lib.ListN.{length}
-use Rattle.refusals.specs.Numbers.{accepted, tooShort, badVersion, tooMany, badLength, badKind, badRotor, badOffset, badEnd, shortOutput}
+use Rattle.refusals.specs.Numbers.{accepted, tooShort, badVersion, tooMany, badLength}
+use Rattle.refusals.specs.Numbers.{badKind, badRotor, badOffset, badEnd, shortOutput}
 use Rattle.refusals.specs.Told.{given, first, atEntry}
 use Rattle.refusals.proofs.First.{given-keeps, first-keeps, entry-keeps}
 use Rattle.wire.specs.Bytes.{littleEndian, readAt}
@@ -40,7 +42,8 @@ choice-own kind rotor = first-keeps SheetNumber tt _
 entry-own : (s : List ℕ) (i end : ℕ) → SheetNumber (entryNumber s i end)
 unfolding entryNumber
 entry-own s i end =
-    first-keeps SheetNumber tt _ (choice-own (kindOf s i) (rotorOf s i), (line (not (eqb (offsetOf s i) end)) badOffset tt, tt))
+    first-keeps SheetNumber tt _
+    (choice-own (kindOf s i) (rotorOf s i), (line (not (eqb (offsetOf s i) end)) badOffset tt, tt))
 
 head-own : (s : List ℕ) → SheetNumber (headNumber s)
 unfolding headNumber
@@ -86,5 +89,6 @@ sheets =
     ∷ []
 
 pub each-told : map (λ (s : List ℕ). judged s .number) sheets ≡ sheetNumbers
-unfolding sheets judged headNumber endNumber entriesTold entryNumber choiceNumber first atEntry bodyAt bodySize readAt littleEndian
+unfolding sheets judged headNumber endNumber entriesTold entryNumber choiceNumber first atEntry bodyAt bodySize
+    readAt littleEndian
 each-told = refl

@@ -48,12 +48,16 @@ one-less i k h = omega arith
 
 module _ (s : List ℕ) (i k : ℕ) (under : i < k) where
   -- an entry with which nothing is wrong is passed
-  pub told-passed : entryTold s i (bodyAt s i) .number ≡ accepted → entriesTold s i (k - i) ≡ entriesTold s (i + 1) (k - (i + 1))
+  pub told-passed : entryTold s i (bodyAt s i) .number ≡ accepted
+      → entriesTold s i (k - i) ≡ entriesTold s (i + 1) (k - (i + 1))
   unfolding entriesTold
-  told-passed h = rw (one-less i k, add-one) (told-later _ _ _ (entry-passed (entryNumber s i (bodyAt s i)) i (alone accepted) h .0))
+  told-passed h =
+      rw (one-less i k, add-one)
+      (told-later _ _ _ (entry-passed (entryNumber s i (bodyAt s i)) i (alone accepted) h .0))
 
   -- a refusal is what is told
-  pub told-refused : {t : Told} → entryTold s i (bodyAt s i) ≡ t → eqb (t .number) accepted ≡ false → entriesTold s i (k - i) ≡ t
+  pub told-refused : {t : Told} → entryTold s i (bodyAt s i) ≡ t → eqb (t .number) accepted ≡ false
+      → entriesTold s i (k - i) ≡ t
   unfolding entriesTold
   told-refused h d = rw (one-less i k) (entry-decides (entryNumber s i (bodyAt s i)) i _ h d)
 

@@ -1,5 +1,5 @@
--- The refusal rule of a sheet, 1 to 8 (the table in document 01, 'The command sheet (ours)'): "given exactly when, first that applies". Definitions only; the
--- quotations are document 01's.
+-- The refusal rule of a sheet, 1 to 8 (the table in document 01, 'The command sheet (ours)'): "given exactly when,
+-- first that applies". Definitions only; the quotations are document 01's.
 use mathlib.Core.Bool.{not, _||_}
 use mathlib.Core.List.{List, [], _∷_}
 use Prim.Native.Nat.{ℕ, zero, suc}
@@ -8,7 +8,7 @@ use lib.ListN.{length}
 use Rattle.refusals.specs.Numbers.{accepted, tooShort, badVersion, tooMany, badLength, badOffset, badEnd}
 use Rattle.refusals.specs.Told.{given, first, Told, alone, atEntry}
 use Rattle.entries.specs.Layout.{versionOf, countOf, lengthField, entryAt, kindOf, rotorOf, offsetOf, bodyAt}
-use Rattle.entries.specs.Refusal.{numberOf}
+use Rattle.entries.specs.Refusal.{refusalNumber}
 use Rattle.entries.specs.Choice.{choiceNumber}
 use Rattle.sheet.specs.declared.Verdict.{Verdict}
 use Rattle.sheet.specs.declared.Verdict.the-variants.{Accepted, Refused}
@@ -29,7 +29,8 @@ headNumber s =
 
 -- 5 and 6, then "offset is not the previous body's end", which is at `end`
 unfoldable pub entryNumber : List ℕ → ℕ → ℕ → ℕ
-entryNumber s i end = first (choiceNumber (kindOf s i) (rotorOf s i) ∷ given (not (eqb (offsetOf s i) end)) badOffset ∷ [])
+entryNumber s i end =
+    first (choiceNumber (kindOf s i) (rotorOf s i) ∷ given (not (eqb (offsetOf s i) end)) badOffset ∷ [])
 
 -- what entry i by itself is told: one of these with the entry number, or that nothing is wrong with it
 abbrev pub entryTold : List ℕ → ℕ → ℕ → Told
@@ -39,7 +40,8 @@ entryTold s i end = atEntry (entryNumber s i end) i (alone accepted)
 unfoldable pub endNumber : List ℕ → ℕ
 endNumber s = given (not (eqb (bodyAt s (countOf s)) (length s))) badEnd
 
--- "5 to 7 are tried in that order entry by entry and come with the entry number; other numbers come with 0": those of `left` entries from entry i on, and then 8
+-- "5 to 7 are tried in that order entry by entry and come with the entry number; other numbers come with 0": those of
+-- `left` entries from entry i on, and then 8
 unfoldable pub entriesTold : List ℕ → ℕ → ℕ → Told
 entriesTold s i zero = alone (endNumber s)
 entriesTold s i (suc left) = atEntry (entryNumber s i (bodyAt s i)) i (entriesTold s (suc i) left)
@@ -51,4 +53,4 @@ judged s = atEntry (headNumber s) 0 (entriesTold s 0 (countOf s))
 -- the paper's number and entry number for each case of `Verdict`
 abbrev pub toldBy : Verdict → Told
 toldBy Accepted = alone accepted
-toldBy (Refused r i) = record { number = numberOf r; entry = i }
+toldBy (Refused r i) = record { number = refusalNumber r; ofEntry = i }

@@ -14,7 +14,8 @@ use entries::layout::rotor;
 use entries::layout::version;
 use entries::refusal::Refusal;
 
-// What a sheet is told: accepted, or why it is refused and at which entry. Refusals that are about no entry come with 0.
+// What a sheet is told: accepted, or why it is refused and at which entry. Refusals that are about no entry come with
+// 0.
 pub enum Verdict {
     Accepted,
     Refused(Refusal, u8),
@@ -66,7 +67,8 @@ fn check_entries(sheet: &[u8]) -> Verdict
     Verdict::Refused(Refusal::BadEnd, 0)
 }
 
-// Entry i, where the body before it ends at `end`: refusals 5 to 7, the first that applies. It reads the entry's four bytes, and none of the numbers of its body.
+// Entry i, where the body before it ends at `end`: refusals 5 to 7, the first that applies. It reads the entry's four
+// bytes, and none of the numbers of its body.
 fn check_entry(sheet: &[u8], i: u8, end: usize) -> Verdict
     ensures { λ v. ⌜ toldBy v ≡ entryTold (now (sheet .entry)) i end ⌝ }
 {

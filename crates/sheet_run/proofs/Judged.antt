@@ -10,14 +10,15 @@ use Rattle.refusals.specs.Told.{alone, atEntry}
 use Rattle.refusals.proofs.First.{not-given, entry-passed}
 use Rattle.entries.specs.declared.refusal.Refusal.{Refusal}
 use Rattle.entries.specs.Layout.{countOf}
-use Rattle.entries.specs.Refusal.{numberOf}
-use Rattle.entries.proofs.Answers.{never-accepted}
+use Rattle.entries.specs.Refusal.{refusalNumber}
+use Rattle.entries.proofs.Chosen.{never-accepted}
 use Rattle.sheet.specs.Table.{judged}
 use Rattle.sheet_run.specs.Run.{judgedFor}
 
 module _ (s : List ℕ) (room : ℕ) where
   -- a refused sheet stays refused
-  pub refused-before : (r : Refusal) (i : ℕ) → record { number = numberOf r; entry = i } ≡ judged s → record { number = numberOf r; entry = i } ≡ judgedFor s room
+  pub refused-before : (r : Refusal) (i : ℕ) → record { number = refusalNumber r; ofEntry = i } ≡ judged s
+      → record { number = refusalNumber r; ofEntry = i } ≡ judgedFor s room
   unfolding judgedFor atEntry
   refused-before r i e = rw (← e, never-accepted r)
 
@@ -35,8 +36,9 @@ module _ (s : List ℕ) (room : ℕ) where
     output-fits h = rw (is, le-ltb room (20 * countOf s))
 
 -- an accepted run has an accepted sheet, and room for its answers
-pub accepted-for : (s : List ℕ) (room : ℕ) → judgedFor s room .number ≡ accepted → (judged s .number ≡ accepted) × (20 * countOf s ≤ room)
+pub accepted-for : (s : List ℕ) (room : ℕ) → judgedFor s room .number ≡ accepted
+    → (judged s .number ≡ accepted) × (20 * countOf s ≤ room)
 unfolding judgedFor
 accepted-for s room h =
-    let parts = entry-passed (judged s .number) (judged s .entry) _ h in
+    let parts = entry-passed (judged s .number) (judged s .ofEntry) _ h in
     (parts .0, ltb-false room (20 * countOf s) (not-given (ltb room (20 * countOf s)) 8 (parts .1)))

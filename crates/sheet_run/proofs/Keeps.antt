@@ -1,4 +1,5 @@
--- Every answer of a run keeps what its mix promises: the numbers of a sheet are f32s, whatever its bytes. Assumes nothing.
+-- Every answer of a run keeps what its mix promises: the numbers of a sheet are f32s, whatever its bytes. Assumes
+-- nothing.
 use mathlib.Core.Path.{refl}
 use mathlib.Core.List.{List, [], _∷_}
 use Prim.Native.Nat.{ℕ, zero, suc}
@@ -11,7 +12,8 @@ use Rattle.rules.specs.Rows.{quadRows}
 use Rattle.rules.proofs.Keeps.{plain-keeps, thrust-floor-keeps, priority-keeps, airmode-keeps, rotor-out-keeps}
 use Rattle.quad.specs.declared.QuadMixer.{QuadMixer}
 use Rattle.entries.specs.declared.choice.Case.{Case}
-use Rattle.entries.specs.declared.choice.Case.the-variants.{Plain as PlainCase, ThrustFloor as ThrustFloorCase, Priority as PriorityCase}
+use Rattle.entries.specs.declared.choice.Case.the-variants.{Plain as PlainCase, ThrustFloor as ThrustFloorCase}
+use Rattle.entries.specs.declared.choice.Case.the-variants.{Priority as PriorityCase}
 use Rattle.entries.specs.declared.choice.Case.the-variants.{Airmode as AirmodeCase, RotorOut as RotorOutCase}
 use Rattle.entries.specs.declared.command.Command.{Command}
 use Rattle.entries.specs.declared.command.Command.the-variants.{Plain, ThrustFloor, Priority, Airmode, RotorOut}
@@ -41,11 +43,16 @@ three-held r p y hr hp hy (suc (suc (suc k))) = nan-fits binary32
 
 called-gives : (q : QuadMixer) (c : Command) → HeldIn c → Gives q c (called q c)
 unfolding called Gives HeldIn
-called-gives q (Plain t r p y) h = record { is = refl; keeps = plain-keeps (r ∷ p ∷ y ∷ []) t (three-held r p y (h .1) (h .2) (h .3)) (h .0) }
-called-gives q (ThrustFloor t r p y floor) h = record { is = refl; keeps = thrust-floor-keeps quadRows (r ∷ p ∷ y ∷ []) t floor (h .0) (h .1) }
-called-gives q (Priority t r p y floor) h = record { is = refl; keeps = priority-keeps quadRows (r ∷ p ∷ y ∷ []) t floor (h .0) (h .1) }
-called-gives q (Airmode t r p y floor) h = record { is = refl; keeps = airmode-keeps quadRows (r ∷ p ∷ y ∷ []) t floor (h .0) (h .1) }
-called-gives q (RotorOut failed t r p y floor) h = record { is = refl; keeps = rotor-out-keeps failed (r ∷ p ∷ y ∷ []) t floor h }
+called-gives q (Plain t r p y) h =
+    record { is = refl; keeps = plain-keeps (r ∷ p ∷ y ∷ []) t (three-held r p y (h .1) (h .2) (h .3)) (h .0) }
+called-gives q (ThrustFloor t r p y floor) h =
+    record { is = refl; keeps = thrust-floor-keeps quadRows (r ∷ p ∷ y ∷ []) t floor (h .0) (h .1) }
+called-gives q (Priority t r p y floor) h =
+    record { is = refl; keeps = priority-keeps quadRows (r ∷ p ∷ y ∷ []) t floor (h .0) (h .1) }
+called-gives q (Airmode t r p y floor) h =
+    record { is = refl; keeps = airmode-keeps quadRows (r ∷ p ∷ y ∷ []) t floor (h .0) (h .1) }
+called-gives q (RotorOut failed t r p y floor) h =
+    record { is = refl; keeps = rotor-out-keeps failed (r ∷ p ∷ y ∷ []) t floor h }
 
 -- ---- a sheet's commands
 
@@ -53,7 +60,8 @@ number-held : (s : List ℕ) (i j : ℕ) → Held (numberIn s i j)
 unfolding numberIn
 number-held s i j = ofBits-fits binary32 _
 
-of-held : (c : Case) (t r p y floor : Float) → Held t → Held r → Held p → Held y → Held floor → HeldIn (commandOf c t r p y floor)
+of-held : (c : Case) (t r p y floor : Float) → Held t → Held r → Held p → Held y → Held floor
+    → HeldIn (commandOf c t r p y floor)
 unfolding commandOf HeldIn
 of-held PlainCase t r p y floor ht hr hp hy hf = (ht, hr, hp, hy)
 of-held ThrustFloorCase t r p y floor ht hr hp hy hf = (ht, hf)
@@ -72,4 +80,5 @@ command-held s i =
 pub each-keeps : (s : List ℕ) (q : QuadMixer) (i left : ℕ) → EachKeeps q (commandsFrom s i left)
 unfolding EachKeeps commandsFrom
 each-keeps s q i zero = tt
-each-keeps s q i (suc left) = (called-gives q (commandAt s i) (command-held s i), each-keeps s (called q (commandAt s i)) (suc i) left)
+each-keeps s q i (suc left) =
+    (called-gives q (commandAt s i) (command-held s i), each-keeps s (called q (commandAt s i)) (suc i) left)

@@ -1,8 +1,9 @@
--- `Judged` has refusal 9 after the others, `Answers` how the output grows, `Walk` the run one command at a time, and `ByVerdict` what a run is by its verdict. Then what is known of
--- every run: `Keeps`, that each answer keeps what its mix promises; `Methods`, that it is the quad's methods called one after another; `Prefix`, that an answer depends on no
--- later command; `Room`, when refusal 9 cannot occur; and `Determined`, that the contracts leave nothing open.
+-- `Judged` has refusal 9 after the others, `AnswerBytes` how the output grows, `Walk` the run one command at a time,
+-- and `ByVerdict` what a run is by its verdict. Then what is known of every run: `Keeps`, that each answer keeps what
+-- its mix promises; `Methods`, that it is the quad's methods called one after another; `Prefix`, that an answer depends
+-- on no later command; `Room`, when refusal 9 cannot occur; and `Determined`, that the contracts leave nothing open.
 pub mod Judged
-pub mod Answers
+pub mod AnswerBytes
 pub mod Walk
 pub mod Keeps
 pub mod ByVerdict

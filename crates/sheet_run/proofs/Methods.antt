@@ -1,5 +1,5 @@
--- Running commands is calling the quad's methods one after another: whatever states satisfy the methods' contracts, the last is the run's, and their answers are those
--- that the run writes. Assumes nothing.
+-- Running commands is calling the quad's methods one after another: whatever states satisfy the methods' contracts, the
+-- last is the run's, and their answers are those that the run writes. Assumes nothing.
 use mathlib.Core.Path.{_≡_, refl, ap}
 use mathlib.Core.List.{List, [], _∷_, _++_}
 use Prim.Native.Nat.{ℕ}
@@ -17,12 +17,15 @@ gives-called q (Priority t r p y floor) last m = m .is
 gives-called q (Airmode t r p y floor) last m = m .is
 gives-called q (RotorOut failed t r p y floor) last m = m .is
 
--- a state is reached by calling the methods of commands in their order, and these are the bytes of the states on the way
+-- a state is reached by calling the methods of commands in their order, and these are the bytes of the states on the
+-- way
 pub data Reached : QuadMixer → List Command → QuadMixer → List ℕ → Type 0 where
   none : {q : QuadMixer} → Reached q [] q []
-  more : {q r last : QuadMixer} {c : Command} {cs : List Command} {bytes : List ℕ} → Gives q c r → Reached r cs last bytes → Reached q (c ∷ cs) last (answerOf r ++ bytes)
+  more : {q r last : QuadMixer} {c : Command} {cs : List Command} {bytes : List ℕ} → Gives q c r
+      → Reached r cs last bytes → Reached q (c ∷ cs) last (answerOf r ++ bytes)
 
-pub reached-ran : {q last : QuadMixer} {cs : List Command} {bytes : List ℕ} → Reached q cs last bytes → (last ≡ ran q cs) × (bytes ≡ answersOf q cs)
+pub reached-ran : {q last : QuadMixer} {cs : List Command} {bytes : List ℕ} → Reached q cs last bytes
+    → (last ≡ ran q cs) × (bytes ≡ answersOf q cs)
 unfolding ran answersOf
 reached-ran none = (refl, refl)
 reached-ran (more {q} {r} {c} m rest) =

@@ -1,5 +1,5 @@
--- Refusal 9 cannot occur for an output of 1,280 bytes: an accepted sheet has at most 64 entries, and 9 is none of a sheet's own numbers.
--- Assumes nothing.
+-- Refusal 9 cannot occur for an output of 1,280 bytes: an accepted sheet has at most 64 entries, and 9 is none of a
+-- sheet's own numbers. Assumes nothing.
 use mathlib.Core.Path.{_≡_, refl, sym, ap, _∙_}
 use mathlib.Core.Bool.{Bool, true, false}
 use mathlib.Core.List.{List}

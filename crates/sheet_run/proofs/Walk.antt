@@ -1,4 +1,5 @@
--- The run one command at a time: what is left of it, from the state and the place reached, gives the whole. Assumes nothing.
+-- The run one command at a time: what is left of it, from the state and the place reached, gives the whole. Assumes
+-- nothing.
 use mathlib.Core.Path.{_≡_, refl, sym, ap}
 use mathlib.Core.List.{List, [], _∷_}
 use Prim.Native.Nat.{ℕ, zero, suc, _+_, _-_, _*_, _≤_, _<_}
@@ -11,7 +12,7 @@ use Rattle.quad.specs.declared.QuadMixer.{QuadMixer}
 use Rattle.entries.specs.Entry.{commandAt}
 use Rattle.sheet.proofs.Walk.{one-less}
 use Rattle.sheet_run.specs.Run.{called, commandsFrom, ran, answerOf, answersOf}
-use Rattle.sheet_run.proofs.Answers.{answer-length, answers-length}
+use Rattle.sheet_run.proofs.AnswerBytes.{answer-length, answers-length}
 
 -- as many commands as entries
 pub commands-length : (s : List ℕ) (i left : ℕ) → length (commandsFrom s i left) ≡ left
@@ -25,21 +26,24 @@ module _ (s : List ℕ) (q : QuadMixer) (i k : ℕ) (under : i < k) where
   unfolding commandsFrom
   next-command = rw (one-less i k, add-one)
 
-  pub ran-more : ran q (commandsFrom s i (k - i)) ≡ ran (called q (commandAt s i)) (commandsFrom s (i + 1) (k - (i + 1)))
+  pub ran-more : ran q (commandsFrom s i (k - i))
+      ≡ ran (called q (commandAt s i)) (commandsFrom s (i + 1) (k - (i + 1)))
   unfolding ran
   ran-more = rw next-command
 
   -- the next answer in its place, and those after it
   pub written-more : (out : List ℕ) → 20 * k ≤ length out
       → writeAt out (20 * i) (answersOf q (commandsFrom s i (k - i)))
-      ≡ writeAt (writeAt out (20 * i) (answerOf (called q (commandAt s i)))) (20 * (i + 1)) (answersOf (called q (commandAt s i)) (commandsFrom s (i + 1) (k - (i + 1))))
+      ≡ writeAt (writeAt out (20 * i) (answerOf (called q (commandAt s i)))) (20 * (i + 1))
+      (answersOf (called q (commandAt s i)) (commandsFrom s (i + 1) (k - (i + 1))))
   unfolding answersOf
   written-more out room =
       let after = called q (commandAt s i) in
       let rest = commandsFrom s (i + 1) (k - (i + 1)) in
       let size = answer-length q (commandAt s i) in
       let place : 20 * i + length (answerOf after) ≡ 20 * (i + 1) = rw size (omega arith) in
-      let both : 20 * i + length (answerOf after) + length (answersOf after rest) ≤ length out = rw (size, answers-length, commands-length) (omega arith) in
+      let both : 20 * i + length (answerOf after) + length (answersOf after rest) ≤ length out =
+      rw (size, answers-length, commands-length) (omega arith) in
       rw (next-command, ← place) (sym (writeAt-append out (20 * i) (answerOf after) (answersOf after rest) both))
 
 -- after the last command nothing is left

@@ -1,5 +1,5 @@
--- Running a sheet (document 01, 'The command sheet (ours)': "An accepted sheet is run from a [...] state as the same calls one after another"). Definitions only; the
--- quotations are document 01's.
+-- Running a sheet (document 01, 'The command sheet (ours)': "An accepted sheet is run from a [...] state as the same
+-- calls one after another"). Definitions only; the quotations are document 01's.
 use mathlib.Core.Path.{_≡_}
 use mathlib.Core.Bool.{cond}
 use mathlib.Core.List.{List, [], _∷_, _++_}
@@ -11,7 +11,8 @@ use Rattle.wire.specs.Bytes.{bytesOf, writeAt}
 use Rattle.refusals.specs.Numbers.{accepted, shortOutput}
 use Rattle.refusals.specs.Told.{given, Told, alone, atEntry}
 use Rattle.quad.specs.declared.QuadMixer.{QuadMixer}
-use Rattle.quad.specs.Mixes.{afterPlain, afterThrustFloor, afterPriority, afterAirmode, afterRotorOut, PlainGives, ThrustFloorGives, PriorityGives, AirmodeGives, RotorOutGives}
+use Rattle.quad.specs.Mixes.{afterPlain, afterThrustFloor, afterPriority, afterAirmode, afterRotorOut}
+use Rattle.quad.specs.Mixes.{PlainGives, ThrustFloorGives, PriorityGives, AirmodeGives, RotorOutGives}
 use Rattle.entries.specs.declared.command.Command.{Command}
 use Rattle.entries.specs.declared.command.Command.the-variants.{Plain, ThrustFloor, Priority, Airmode, RotorOut}
 use Rattle.entries.specs.Layout.{countOf, answerSize}
@@ -76,12 +77,16 @@ answersOf q (c ∷ cs) = answerOf (called q c) ++ answersOf (called q c) cs
 
 -- 1 to 8, then "output under 20k bytes", for an output of so many
 unfoldable pub judgedFor : List ℕ → ℕ → Told
-judgedFor s room = atEntry (judged s .number) (judged s .entry) (alone (given (ltb room (answerSize * countOf s)) shortOutput))
+judgedFor s room =
+    atEntry (judged s .number) (judged s .ofEntry) (alone (given (ltb room (answerSize * countOf s)) shortOutput))
 
--- a run from a state with an output: "On a refusal the output and state are unchanged"; else the state is that after the commands, each answer stands at its place,
--- and "Bytes past 20k stay". Of an accepted sheet each call whose answer is written keeps what its mix promises.
-pub record Ran (s : List ℕ) (before : QuadMixer) (out : List ℕ) (verdict : Verdict) (after : QuadMixer) (written : List ℕ) : Type 0 where
+-- a run from a state with an output: "On a refusal the output and state are unchanged"; else the state is that after
+-- the commands, each answer stands at its place, and "Bytes past 20k stay". Of an accepted sheet each call whose answer
+-- is written keeps what its mix promises.
+pub record Ran (s : List ℕ) (before : QuadMixer) (out : List ℕ)
+    (verdict : Verdict) (after : QuadMixer) (written : List ℕ) : Type 0 where
   pub told : toldBy verdict ≡ judgedFor s (length out)
   pub state : after ≡ cond (eqb (judgedFor s (length out) .number) accepted) (ran before (commandsOf s)) before
-  pub output : written ≡ cond (eqb (judgedFor s (length out) .number) accepted) (writeAt out 0 (answersOf before (commandsOf s))) out
+  pub output : written
+      ≡ cond (eqb (judgedFor s (length out) .number) accepted) (writeAt out 0 (answersOf before (commandsOf s))) out
   pub keeps : judgedFor s (length out) .number ≡ accepted → EachKeeps before (commandsOf s)

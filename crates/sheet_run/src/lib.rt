@@ -1,6 +1,8 @@
-// Runs a command sheet: its commands one after another as calls of the quad's mixes, each answer written to its place in the output.
+// Runs a command sheet: its commands one after another as calls of the quad's mixes, each answer written to its place
+// in the output.
 //
-// The state goes in by value and comes back. Where the sheet is refused nothing is written and the state is the one that was given.
+// The state goes in by value and comes back. Where the sheet is refused nothing is written and the state is the one
+// that was given.
 ghost use mathlib.Core.Path.{_≡_};
 ghost use Prim.Native.Nat.{_*_, _≤_};
 ghost use lib.ListN.{length};
@@ -139,7 +141,8 @@ fn run_entries(sheet: &[u8], state: QuadMixer, out: &mut [u8]) -> Outcome
     }
 }
 
-// Runs a sheet from a state. Each entry's answer takes 20 bytes at its place in the output, and the bytes past the last stay.
+// Runs a sheet from a state. Each entry's answer takes 20 bytes at its place in the output, and the bytes past the last
+// stay.
 pub fn run(sheet: &[u8], state: QuadMixer, out: &mut [u8]) -> Outcome
     ensures { λ r. ⌜ Ran (now (sheet .entry)) state (now (out .entry)) (r .verdict) (r .state) (now (out .exit)) ⌝ }
 {

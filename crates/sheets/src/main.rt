@@ -1,8 +1,9 @@
-// Replays a fixed list of sheets with the answers that an independent reader, over the Rust's mixer, gave (compare/run --list writes it). It prints a line for each
-// record that differs, and then how many sheets were replayed and how many differ.
+// Replays a fixed list of sheets with the answers that an independent reader, over the Rust's mixer, gave (compare/run
+// --list writes it). It prints a line for each record that differs, and then how many sheets were replayed and how many
+// differ.
 //
-// Compared are the number and the entry number, every byte of the output, the state afterwards, the body of one entry, and of some records the text that `mixrun`
-// prints. record.rt has the layout of a record.
+// Compared are the number and the entry number, every byte of the output, the state afterwards, the body of one entry,
+// and of some records the text that `mixrun` prints. record.rt has the layout of a record.
 mod record;
 mod walk;
 

@@ -1,4 +1,5 @@
-// A record of the list: 18 words, then the sheet, the output after the run, and the text that `mixrun` prints. A text that is not compared has length 0.
+// A record of the list: 18 words, then the sheet, the output after the run, and the text that `mixrun` prints. A text
+// that is not compared has length 0.
 ghost use Prim.Native.Nat.{_≤_, _<_};
 use bits::bits_of;
 use bits::float_of;
@@ -75,7 +76,8 @@ pub(crate) fn agrees(record: &[u8]) -> bool {
 
 // ---- the run
 
-// Whether a run from the record's state gives its number, entry number, state and output. Before it, byte j of the output is j modulo 251.
+// Whether a run from the record's state gives its number, entry number, state and output. Before it, byte j of the
+// output is j modulo 251.
 fn run_agrees(record: &[u8], sheet: &[u8], output: &[u8]) -> bool {
     let mut room = [0u8; MOST];
     fill(&mut room);

@@ -37,7 +37,8 @@ pub(crate) fn replay(list: &[u8]) -> Tally {
     Tally { replayed, differ }
 }
 
-// Whether the records end where the list does, and are as many as it says. A list that fills the room may have more to come.
+// Whether the records end where the list does, and are as many as it says. A list that fills the room may have more to
+// come.
 fn is_whole(list: &[u8], at: usize, replayed: usize) -> bool {
     at == list.len() && at < ROOM && replayed == read_u32(list, 0) as usize
 }

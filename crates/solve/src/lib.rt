@@ -1,12 +1,13 @@
-// Follows relay-mix-quad's det3 and solve3 (Apache-2.0, see NOTICE); changed: written in Rattle, with contracts; the Option is a struct with a flag; the
-// loops over three columns and three rows are written out; the size of the determinant is compared from both sides, with no absolute value made.
+// Follows relay-mix-quad's det3 and solve3 (Apache-2.0, see NOTICE); changed: written in Rattle, with contracts; the
+// Option is a struct with a flag; the loops over three columns and three rows are written out; the size of the
+// determinant is compared from both sides, with no absolute value made.
 use number::SMALL;
 use number::is_finite;
 ghost use mathlib.Core.Path.{_≡_};
 ghost use Prim.Native.Nat.{_<_};
 ghost use lib.Ieee.{lt};
 ghost use Rattle.binary32.specs.Arithmetic.{small, absolute};
-ghost use Rattle.solve.specs.Solve.{entry, determinant, singular, replaced, cramer, solution};
+ghost use Rattle.solve.specs.Solve.{element, determinant, singular, replaced, cramer, solution};
 
 // What solve3 finds. Where nothing was solved, x holds three +0.
 pub struct Solution {
@@ -16,7 +17,7 @@ pub struct Solution {
 
 // Determinant of a 3x3 matrix given by its rows, each read once.
 pub fn det3(a: [[f32; 3]; 3]) -> f32
-    ensures { λ r. ⌜ r ≡ determinant (entry a) ⌝ }
+    ensures { λ r. ⌜ r ≡ determinant (element a) ⌝ }
 {
     let b = a[0];
     let c = a[1];
@@ -59,7 +60,8 @@ fn unknown(a: [[f32; 3]; 3], k: usize, rhs: [f32; 3], det: f32) -> f32
     det3(with_column(a, k, rhs)) / det
 }
 
-// Solves a x = rhs by Cramer's rule. Nothing is solved where the determinant is not finite or smaller than SMALL in size.
+// Solves a x = rhs by Cramer's rule. Nothing is solved where the determinant is not finite or smaller than SMALL in
+// size.
 pub fn solve3(a: [[f32; 3]; 3], rhs: [f32; 3]) -> Solution
     ensures { λ r. ⌜ r ≡ solution a rhs ⌝ }
 {

@@ -1,4 +1,5 @@
--- Each public contract determines the lent bytes afterwards, and that of `write_decimal` the answer too: two results that satisfy it are one. Assumes nothing.
+-- Each public contract determines the lent bytes afterwards, and that of `write_decimal` the answer too: two results
+-- that satisfy it are one. Assumes nothing.
 use mathlib.Core.Path.{_≡_, sym, _∙_}
 use mathlib.Core.List.{List}
 use Prim.Native.Nat.{ℕ, _≤_}
@@ -10,7 +11,8 @@ module _ (before : List ℕ) (at : ℕ) (after other : List ℕ) where
   pub write-determined : (s : List ℕ) → after ≡ writeAt before at s → other ≡ writeAt before at s → after ≡ other
   write-determined s h k = h ∙ sym k
 
-  pub write-hex-determined : (bits : ℕ) → after ≡ writeAt before at (hexOf bits) → other ≡ writeAt before at (hexOf bits) → after ≡ other
+  pub write-hex-determined : (bits : ℕ) → after ≡ writeAt before at (hexOf bits)
+      → other ≡ writeAt before at (hexOf bits) → after ≡ other
   write-hex-determined bits = write-determined (hexOf bits)
 
   -- what `write_decimal` ensures

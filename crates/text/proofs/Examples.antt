@@ -1,4 +1,5 @@
--- The definitions of `specs/Digits.antt` at words of document 01's lines, so that they are seen to say what is printed. Assumes nothing.
+-- The definitions of `specs/Digits.antt` at words of document 01's lines, so that they are seen to say what is printed.
+-- Assumes nothing.
 use mathlib.Core.Path.{_≡_, refl}
 use mathlib.Core.List.{[], _∷_}
 use Rattle.text.specs.Digits.{hexOf, decimalWithin, decimalOf}

@@ -1,4 +1,5 @@
--- The digits that the kit's crate io gives, the fewest that hold a number, are those of `specs/Digits.antt`. Assumes nothing.
+-- The digits that the kit's crate io gives, the fewest that hold a number, are those of `specs/Digits.antt`. Assumes
+-- nothing.
 use mathlib.Core.Path.{_≡_, refl, ap}
 use mathlib.Core.Bool.{Bool, true, false}
 use mathlib.Core.List.{List, [], _∷_, _++_}
@@ -39,7 +40,7 @@ fewest-hex n r held h =
 
 -- ---- decimal
 
--- a power of ten is above its exponent
+-- a power of ten is over its exponent
 below-power : (j : ℕ) → j < 10 ^ j
 below-power zero = omega arith
 below-power (suc j) = let h : j < 10 ^ j = below-power j in rw pow-succ' (omega arith)

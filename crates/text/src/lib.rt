@@ -31,7 +31,9 @@ pub fn write_hex(out: &mut [u8], at: usize, bits: u32)
 
 // A number's decimal digits at a place. Answers how many they are, whether they fit there or not.
 pub fn write_decimal(out: &mut [u8], at: usize, n: u64) -> usize
-    ensures { λ r. ⌜ (now (out .exit) ≡ writeAt (now (out .entry)) at (decimalOf n)) × (r ≡ length (decimalOf n)) × (r ≤ 20) ⌝ }
+    ensures { λ r. ⌜
+        (now (out .exit) ≡ writeAt (now (out .entry)) at (decimalOf n)) × (r ≡ length (decimalOf n)) × (r ≤ 20)
+        ⌝ }
 {
     let mut digits = [0u8; 20];
     let count = io::decimal(n, &mut digits);

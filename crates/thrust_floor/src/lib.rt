@@ -1,5 +1,6 @@
-// The thrust-floor mix: thrust before torque. Follows relay-mix-quad's `mix_thrust_floor` (Apache-2.0, see NOTICE); changed: written in Rattle with contracts, with
-// choices in the place of branches and the loops over four motors written out.
+// The thrust-floor mix: thrust before torque. Follows relay-mix-quad's `mix_thrust_floor` (Apache-2.0, see NOTICE);
+// changed: written in Rattle with contracts, with choices in the place of branches and the loops over four motors
+// written out.
 use number::clamp_floor;
 use number::limit;
 use rotors::command::deltas;
@@ -16,14 +17,19 @@ pub fn scaled_motor(floor: f32, base: f32, s: f32, d: f32) -> f32
 }
 
 // The motors, and the scale that their torque was given at.
-pub struct Scaled {
+pub struct MotorsAndScale {
     pub motors: [f32; 4],
     pub scale: f32,
 }
 
 // The torque is scaled down, all of it alike, so that each motor stays in floor..1 and the thrust is kept.
-pub fn motors(torque_body: [f32; 3], thrust: f32, floor: f32) -> Scaled
-    ensures { λ r. ⌜ r ≡ record { motors = thrustFloorMotors quadRows «torque_body» thrust floor; scale = thrustFloorScale quadRows «torque_body» thrust floor } ⌝ }
+pub fn motors(torque_body: [f32; 3], thrust: f32, floor: f32) -> MotorsAndScale
+    ensures { λ r. ⌜
+        r ≡ record {
+          motors = thrustFloorMotors quadRows «torque_body» thrust floor;
+          scale = thrustFloorScale quadRows «torque_body» thrust floor;
+        }
+        ⌝ }
 {
     let low = limit(floor);
     let base = lift(limit(thrust), low);
@@ -36,5 +42,5 @@ pub fn motors(torque_body: [f32; 3], thrust: f32, floor: f32) -> Scaled
         scaled_motor(low, base, s, d[2]),
         scaled_motor(low, base, s, d[3]),
     ];
-    Scaled { motors, scale: s }
+    MotorsAndScale { motors, scale: s }
 }

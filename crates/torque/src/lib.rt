@@ -1,5 +1,5 @@
-// The torque that motors give. Follows relay-mix-quad's `motors_to_torque_signs` (Apache-2.0, see NOTICE); changed: written in Rattle with contracts, the loop
-// written out.
+// The torque that motors give. Follows relay-mix-quad's `motors_to_torque_signs` (Apache-2.0, see NOTICE); changed:
+// written in Rattle with contracts, the loop written out.
 use rotors::rows::M1;
 use rotors::rows::M2;
 use rotors::rows::M3;

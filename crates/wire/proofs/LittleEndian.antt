@@ -1,10 +1,12 @@
--- The laws of `specs/Bytes.antt`, each over the number of bytes: a number and its bytes, what is read at a place, what a write does
--- to every part of the bytes, and what is read after a write. Assumes nothing.
+-- The laws of `specs/Bytes.antt`, each over the number of bytes: a number and its bytes, what is read at a place, what
+-- a write does to every part of the bytes, and what is read after a write. Assumes nothing.
 use mathlib.Core.Path.{_≡_, refl, sym, ap, _∙_}
 use mathlib.Core.Bool.{Bool, true, false, cond}
 use mathlib.Core.List.{List, [], _∷_, _++_, append-nil, append-assoc}
 use Prim.Native.Nat.{ℕ, zero, suc, _+_, _-_, _*_, _/_, _%_, _^_, _≤_, _<_}
-use native.Mathlib.Nat.{zero-add, add-zero, suc-add, add-suc, add-assoc, one-mul, mul-zero, mul-assoc, mul-comm, mul-add, div-one, div-div-eq-div-mul, mod-mod-of-dvd, dvd-mul-right, pow-succ', not-suc-le-zero, le-of-suc-le-suc, add-sub-of-le}
+use native.Mathlib.Nat.{zero-add, add-zero, suc-add, add-suc, add-assoc, one-mul, mul-zero, mul-assoc}
+use native.Mathlib.Nat.{mul-comm, mul-add, div-one, div-div-eq-div-mul, mod-mod-of-dvd, dvd-mul-right}
+use native.Mathlib.Nat.{pow-succ', not-suc-le-zero, le-of-suc-le-suc, add-sub-of-le}
 use native.Mathlib.Omega.{arith}
 use lib.Arith.{lt-one, mod-mul, digits-div}
 use lib.Dec.{leb, leb·suc-suc}
@@ -32,7 +34,7 @@ littleEndian-bytesOf (suc k) {x} h =
     quotient : (x y : ℕ) → x < 256 * y → x / 256 < y
     quotient x y h = omega arith
 
--- the bytes of a number are those of its low part, and then those of what is above it
+-- the bytes of a number are those of its low part, and then those of what is over it
 pub bytesOf-add : (j k x : ℕ) → bytesOf (j + k) x ≡ bytesOf j x ++ bytesOf k (x / 256 ^ j)
 unfolding bytesOf
 bytesOf-add zero k x = rw (zero-add, div-one)
@@ -57,11 +59,13 @@ bytesOf-low (suc j) x = rw (pow-succ', mod-mod-of-dvd 256 x (dvd-mul-right 256 (
 -- ---- reading at a place
 
 -- the number of a run of bytes is that of its first j, and 256 ^ j times that of those after them
-littleEndian-take-add : (j k : ℕ) (bs : List ℕ) → littleEndian (take (j + k) bs) ≡ littleEndian (take j bs) + 256 ^ j * littleEndian (take k (drop j bs))
+littleEndian-take-add : (j k : ℕ) (bs : List ℕ)
+    → littleEndian (take (j + k) bs) ≡ littleEndian (take j bs) + 256 ^ j * littleEndian (take k (drop j bs))
 unfolding littleEndian
 littleEndian-take-add zero k bs = simp (zero-add, one-mul)
 littleEndian-take-add (suc j) k [] = rw (suc-add, take-nil, mul-zero)
-littleEndian-take-add (suc j) k (b ∷ bs) = rw (suc-add, littleEndian-take-add j k bs, pow-succ', mul-add, mul-assoc, add-assoc)
+littleEndian-take-add (suc j) k (b ∷ bs) =
+    rw (suc-add, littleEndian-take-add j k bs, pow-succ', mul-add, mul-assoc, add-assoc)
 
 -- j + k bytes are read as j bytes and the k bytes after them
 pub readAt-add : (j k : ℕ) (s : List ℕ) (at : ℕ) → readAt (j + k) s at ≡ readAt j s at + 256 ^ j * readAt k s (at + j)
@@ -99,11 +103,13 @@ module _ (out : List ℕ) (at : ℕ) (bs : List ℕ) where
   writeAt-sets h = sets-eq bs out at h ∙ sym (writeAt-fits h)
 
   -- what holds of the bytes placed, if they fit, and of the old bytes, holds of the write
-  by-fit : (P : List ℕ → Type 0) → (at + length bs ≤ length out → P (take at out ++ bs ++ drop (at + length bs) out)) → P out → P (writeAt out at bs)
+  by-fit : (P : List ℕ → Type 0) → (at + length bs ≤ length out → P (take at out ++ bs ++ drop (at + length bs) out))
+      → P out → P (writeAt out at bs)
   unfolding writeAt
   by-fit P placed kept = go (leb (at + length bs) (length out)) refl
     where
-      go : (t : Bool) → leb (at + length bs) (length out) ≡ t → P (cond t (take at out ++ bs ++ drop (at + length bs) out) out)
+      go : (t : Bool) → leb (at + length bs) (length out) ≡ t
+          → P (cond t (take at out ++ bs ++ drop (at + length bs) out) out)
       go true e = placed (leb-true (at + length bs) (length out) e)
       go false e = kept
 
@@ -131,22 +137,37 @@ module _ (out : List ℕ) (at : ℕ) (bs : List ℕ) where
       by-fit (λ l. drop n l ≡ drop n out)
       (λ h.
       let head : length (take at out ++ bs) ≡ end = simp (length-append, length-take-le at out (omega arith)) in
-      rw (← e, ← drop-drop (n - end) end (take at out ++ bs ++ drop end out), drop-at (take at out ++ bs) (drop end out) end head, drop-drop))
+      rw (
+        ← e,
+        ← drop-drop (n - end) end (take at out ++ bs ++ drop end out),
+        drop-at (take at out ++ bs) (drop end out) end head,
+        drop-drop,
+      ))
       refl
 
   -- and where they fit, those between are the bytes written
   pub writeAt-between : at + length bs ≤ length out → take (length bs) (drop at (writeAt out at bs)) ≡ bs
   writeAt-between h =
       let head : length (take at out) ≡ at = length-take-le at out (omega arith) in
-      rw (writeAt-fits h, append-assoc, drop-at (take at out) (bs ++ drop (at + length bs) out) at head, take-append-seam)
+      rw (
+        writeAt-fits h,
+        append-assoc,
+        drop-at (take at out) (bs ++ drop (at + length bs) out) at head,
+        take-append-seam,
+      )
 
 -- bytes written after bytes written are one write
-pub writeAt-append : (out : List ℕ) (at : ℕ) (bs cs : List ℕ) → at + length bs + length cs ≤ length out → writeAt (writeAt out at bs) (at + length bs) cs ≡ writeAt out at (bs ++ cs)
+pub writeAt-append : (out : List ℕ) (at : ℕ) (bs cs : List ℕ) → at + length bs + length cs ≤ length out
+    → writeAt (writeAt out at bs) (at + length bs) cs ≡ writeAt out at (bs ++ cs)
 writeAt-append out at bs cs h =
     let first : at + length bs ≤ length out = omega arith in
     let both : at + length (bs ++ cs) ≤ length out = rw (length-append, ← add-assoc) h in
     let second : at + length bs + length cs ≤ length (writeAt out at bs) = rw writeAt-length h in
-    rw (← writeAt-sets (writeAt out at bs) (at + length bs) cs second, ← writeAt-sets out at bs first, ← writeAt-sets out at (bs ++ cs) both) (sym (sets-append out at bs cs))
+    rw (
+      ← writeAt-sets (writeAt out at bs) (at + length bs) cs second,
+      ← writeAt-sets out at bs first,
+      ← writeAt-sets out at (bs ++ cs) both,
+    ) (sym (sets-append out at bs cs))
   where
     sets-append : (l : List ℕ) (i : ℕ) (bs cs : List ℕ) → sets l i (bs ++ cs) ≡ sets (sets l i bs) (i + length bs) cs
     sets-append l i [] cs = rw add-zero
@@ -162,7 +183,8 @@ writeAt-cons b out at bs = rw (suc-add, leb·suc-suc) (go (leb (at + length bs) 
     go false l m = refl
 
 -- a write in the part from n on, seen from the whole
-pub writeAt-part : (out : List ℕ) (n at : ℕ) (bs : List ℕ) → n ≤ length out → take n out ++ writeAt (drop n out) at bs ≡ writeAt out (n + at) bs
+pub writeAt-part : (out : List ℕ) (n at : ℕ) (bs : List ℕ) → n ≤ length out
+    → take n out ++ writeAt (drop n out) at bs ≡ writeAt out (n + at) bs
 writeAt-part out zero at bs h = rw zero-add
 writeAt-part [] (suc n) at bs h = absurd (not-suc-le-zero h)
 writeAt-part (b ∷ out) (suc n) at bs h = rw (suc-add, writeAt-cons, writeAt-part out n at bs (le-of-suc-le-suc h))
@@ -182,19 +204,24 @@ writeAt-nothing out at = go (leb (at + 0) (length out))
     go true = rw (append-nil, add-zero, take-append-drop)
     go false = refl
 
--- a number of j + k bytes that fit is written by its low j bytes and then the k bytes above them
-pub writeAt-bytesOf-add : (j k x : ℕ) (out : List ℕ) (at : ℕ) → at + (j + k) ≤ length out → writeAt (writeAt out at (bytesOf j (x % 256 ^ j))) (at + j) (bytesOf k (x / 256 ^ j)) ≡ writeAt out at (bytesOf (j + k) x)
+-- a number of j + k bytes that fit is written by its low j bytes and then the k bytes over them
+pub writeAt-bytesOf-add : (j k x : ℕ) (out : List ℕ) (at : ℕ) → at + (j + k) ≤ length out
+    → writeAt (writeAt out at (bytesOf j (x % 256 ^ j))) (at + j) (bytesOf k (x / 256 ^ j))
+    ≡ writeAt out at (bytesOf (j + k) x)
 writeAt-bytesOf-add j k x out at h =
     let low = bytesOf j x in
     let high = bytesOf k (x / 256 ^ j) in
     let e : length low ≡ j = bytesOf-length j x in
     let room : at + length low + length high ≤ length out = rw (e, bytesOf-length, add-assoc) h in
-    rw (bytesOf-low, bytesOf-add) (ap (λ (n : ℕ). writeAt (writeAt out at low) (at + n) high) (sym e) ∙ writeAt-append out at low high room)
+    rw (bytesOf-low, bytesOf-add)
+    (ap (λ (n : ℕ). writeAt (writeAt out at low) (at + n) high) (sym e) ∙ writeAt-append out at low high room)
 
--- ---- reading after a write. No proof cites these: they show that reading and writing, as they are defined, go together
+-- ---- reading after a write. No proof cites these: they show that reading and writing, as they are defined, go
+-- together
 
 -- a number that was written where it fits is read back
-pub readAt-written : (k : ℕ) {x : ℕ} (out : List ℕ) (at : ℕ) → x < 256 ^ k → at + k ≤ length out → readAt k (writeAt out at (bytesOf k x)) at ≡ x
+pub readAt-written : (k : ℕ) {x : ℕ} (out : List ℕ) (at : ℕ) → x < 256 ^ k → at + k ≤ length out
+    → readAt k (writeAt out at (bytesOf k x)) at ≡ x
 unfolding readAt
 readAt-written k {x} out at h room =
     let e : length (bytesOf k x) ≡ k = bytesOf-length k x in
@@ -209,17 +236,26 @@ take-drop k (suc n) [] = rw (suc-add, take-nil)
 take-drop k (suc n) (b ∷ l) = rw suc-add (take-drop k n l)
 
 -- what ends before the bytes written is read as before
-pub readAt-before : (k : ℕ) (out : List ℕ) (at : ℕ) (bs : List ℕ) (n : ℕ) → n + k ≤ at → readAt k (writeAt out at bs) n ≡ readAt k out n
+pub readAt-before : (k : ℕ) (out : List ℕ) (at : ℕ) (bs : List ℕ) (n : ℕ)
+    → n + k ≤ at → readAt k (writeAt out at bs) n ≡ readAt k out n
 unfolding readAt
 readAt-before k out at bs n h = simp (take-drop k n, writeAt-before out at bs (n + k) h)
 
 -- and so is what starts after them
-pub readAt-after : (k : ℕ) (out : List ℕ) (at : ℕ) (bs : List ℕ) (n : ℕ) → at + length bs ≤ n → readAt k (writeAt out at bs) n ≡ readAt k out n
+pub readAt-after : (k : ℕ) (out : List ℕ) (at : ℕ) (bs : List ℕ) (n : ℕ) → at + length bs ≤ n
+    → readAt k (writeAt out at bs) n ≡ readAt k out n
 unfolding readAt
 readAt-after k out at bs n h = rw (writeAt-after out at bs n h)
 
 -- and what lies within them is read off them
-pub readAt-within : (k : ℕ) (out : List ℕ) (at : ℕ) (bs : List ℕ) (n : ℕ) → at + length bs ≤ length out → n + k ≤ length bs → readAt k (writeAt out at bs) (at + n) ≡ readAt k bs n
+pub readAt-within : (k : ℕ) (out : List ℕ) (at : ℕ) (bs : List ℕ) (n : ℕ) → at + length bs ≤ length out
+    → n + k ≤ length bs → readAt k (writeAt out at bs) (at + n) ≡ readAt k bs n
 unfolding readAt
 readAt-within k out at bs n room h =
-    rw (← drop-drop n at (writeAt out at bs), take-drop k n (drop at (writeAt out at bs)), ← take-take (n + k) (length bs) _ h, writeAt-between out at bs room, take-drop k n bs)
+    rw (
+      ← drop-drop n at (writeAt out at bs),
+      take-drop k n (drop at (writeAt out at bs)),
+      ← take-take (n + k) (length bs) _ h,
+      writeAt-between out at bs room,
+      take-drop k n bs,
+    )

@@ -18,9 +18,11 @@ module _ (out : List ℕ) (at : ℕ) (within : at ≤ length out) where
   -- the bytes when it is back
   pub part-back : (part : List ℕ) → putMid at (length out - at) out part ≡ take at out ++ part
   part-back part =
-      let after : postOf at (length out - at) out ≡ [] = post-is at (length out) out within ∙ drop-of-length-le out {i = length out} (omega arith) in
+      let after : postOf at (length out - at) out ≡ [] =
+      post-is at (length out) out within ∙ drop-of-length-le out {i = length out} (omega arith) in
       rw (after, append-nil)
 
   -- so what is written at the start of the part is written at the place
-  pub part-written : (bs : List ℕ) → putMid at (length out - at) out (writeAt (midOf at (length out - at) out) 0 bs) ≡ writeAt out at bs
+  pub part-written : (bs : List ℕ)
+      → putMid at (length out - at) out (writeAt (midOf at (length out - at) out) 0 bs) ≡ writeAt out at bs
   part-written bs = rw (part-lent, part-back, writeAt-part out at 0 bs within, add-zero)

@@ -1,5 +1,5 @@
--- What the clauses of `src/lib.rt` cite: numbers as bytes, and their places in a run of bytes. The order is that of document 01,
--- "The command sheet": little-endian. Each definition is over the number of bytes. Assumes nothing.
+-- What the clauses of `src/lib.rt` cite: numbers as bytes, and their places in a run of bytes. The order is that of
+-- document 01, "The command sheet": little-endian. Each definition is over the number of bytes. Assumes nothing.
 use Prim.Native.Nat.{ℕ, zero, suc, _+_, _*_, _/_, _%_}
 use mathlib.Core.Bool.{cond}
 use mathlib.Core.List.{List, [], _∷_, _++_}
@@ -16,7 +16,8 @@ unfoldable pub bytesOf : ℕ → ℕ → List ℕ
 bytesOf zero x = []
 bytesOf (suc k) x = x % 256 ∷ bytesOf k (x / 256)
 
--- The number of k bytes that stands at a place of s, where a byte past the end counts as 0 (document 01, "The command sheet").
+-- The number of k bytes that stands at a place of s, where a byte past the end counts as 0 (document 01, "The command
+-- sheet").
 unfoldable pub readAt : ℕ → List ℕ → ℕ → ℕ
 readAt k s at = littleEndian (take k (drop at s))
 

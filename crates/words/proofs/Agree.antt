@@ -1,4 +1,5 @@
--- The laws of `specs/Words.antt` by which a loop finds whether two runs agree: one more word that agrees keeps it, and one that differs ends it. Assumes nothing.
+-- The laws of `specs/Words.antt` by which a loop finds whether two runs agree: one more word that agrees keeps it, and
+-- one that differs ends it. Assumes nothing.
 use mathlib.Core.Path.{_≡_, refl, subst}
 use mathlib.Core.Bool.{Bool, true, false, _&&_}
 use mathlib.Core.List.{List}

@@ -85,7 +85,7 @@ pub fn hex_x() -> Mixer<6> {
     Mixer::new(exported::hex_x())
 }
 
-/// Four arms with two rotors each, one above the other, which spin against each other.
+/// Four arms with two rotors each, one over the other, which spin against each other.
 pub fn octo_coax() -> Mixer<8> {
     Mixer::new(exported::octo_coax())
 }

@@ -29,7 +29,7 @@ pub const ANSWER_BYTES: usize = 20;
 /// 5, 6 and 7 come with the entry that they are about, and are tried entry by entry.
 #[derive(Clone, Copy, Debug, PartialEq, Eq)]
 pub struct Refused {
-    /// The number, as in the list above.
+    /// The number, as in the list.
     pub number: u32,
     /// The entry that the number comes with, counted from 0; with a number that comes with none, 0.
     pub entry: u32,

@@ -13,7 +13,8 @@ returns c =
     let args = c .before .before .args in
     let idle = args .idle in
     let range = args .range in
-    simp (c .pick2 .ensures, c .before .pick .ensures) (both (lt small range) (lt (1f -f idle) range) ((1f -f idle) /f range) 1f)
+    simp (c .pick2 .ensures, c .before .pick .ensures)
+    (both (lt small range) (lt (1f -f idle) range) ((1f -f idle) /f range) 1f)
 
 pub spread-scale-spec : {M : Type 1} → statement M
 spread-scale-spec = tie.close (tie.spec (λ c κs. search needs) (λ c κs. search needs) returns)

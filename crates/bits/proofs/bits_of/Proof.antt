@@ -1,4 +1,5 @@
--- `bits::bits_of` meets its contract. A NaN's pattern is written out; any other float has a pattern of its own. Assumes nothing.
+-- `bits::bits_of` meets its contract. A NaN's pattern is written out; any other float has a pattern of its own. Assumes
+-- nothing.
 use mathlib.Core.Path.{sym, _∙_}
 use borrow.Author.Needs.{needs}
 use lib.Ieee.{toBits}

@@ -1,5 +1,5 @@
--- `bits::float_of` meets its contract. A pattern above +infinity's is read as the NaN, which 0.0 / 0.0 is too; any other is
--- no NaN's. Assumes nothing.
+-- `bits::float_of` meets its contract. A pattern over +infinity's is read as the NaN, which 0.0 / 0.0 is too; any
+-- other is no NaN's. Assumes nothing.
 use mathlib.Core.Path.{sym, _∙_}
 use native.Mathlib.Omega.{arith}
 use borrow.Author.Needs.{needs}

@@ -9,7 +9,8 @@ use Rattle.bodies.proofs.body.Statement.{statement}
 use Rattle.bodies.proofs.body.Tie as tie
 
 -- the part ends within the sheet
-within : (c : tie.After-place) → c .place .result .at + c .place .result .size ≤ length (c .before .before .args .sheet .now)
+within : (c : tie.After-place)
+    → c .place .result .at + c .place .result .size ≤ length (c .before .before .args .sheet .now)
 within c = rw (c .place .ensures) (place-within _ _)
 
 add-end : tie.Need-add-end
@@ -31,4 +32,5 @@ returns c =
     }
 
 pub body-spec : {M : Type 1} → statement M
-body-spec = tie.close (tie.spec (λ c κs. search needs) add-end (λ c. search needs) (λ c. search needs) part-result-end returns)
+body-spec =
+    tie.close (tie.spec (λ c κs. search needs) add-end (λ c. search needs) (λ c. search needs) part-result-end returns)

@@ -1,8 +1,9 @@
--- `bodies::place` meets its contract: of an accepted sheet and one of its entries the body's offset and size, else an empty part. Assumes nothing.
+-- `bodies::place` meets its contract: of an accepted sheet and one of its entries the body's offset and size, else an
+-- empty part. Assumes nothing.
 use mathlib.Core.Path.{_≡_, sym}
 use borrow.Author.Needs.{needs}
 use Rattle.refusals.specs.Numbers.{accepted}
-use Rattle.entries.proofs.Answers.{never-accepted}
+use Rattle.entries.proofs.Chosen.{never-accepted}
 use Rattle.sheet.specs.Table.{judged}
 use Rattle.sheet.proofs.Verdicts.{accepted-number, refused-number}
 use Rattle.bodies.proofs.Bodies.{none-of-refused, none-past, body-under, none-placed, body-placed}

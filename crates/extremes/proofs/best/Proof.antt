@@ -1,5 +1,5 @@
--- `extremes::best` meets its contract. The loop's invariant: what is left to walk, from the number held, gives the whole walk. An element's offset, 4 bytes
--- each, fits a `usize` since a slice's bytes do. Assumes nothing.
+-- `extremes::best` meets its contract. The loop's invariant: what is left to walk, from the number held, gives the
+-- whole walk. An element's offset, 4 bytes each, fits a `usize` since a slice's bytes do. Assumes nothing.
 use mathlib.Core.Path.{_≡_, sym, ap, _∙_}
 use mathlib.Core.Bool.{Bool, cond}
 use Prim.Native.Nat.{_+_, _-_, _≤_}
@@ -53,7 +53,8 @@ returns-2 : tie.Need-returns-2 Inv-loop μ-loop
 returns-2 c =
     let at-loop = c .before in
     let args = at-loop .before .before .before .before .args in
-    sym (walk-over (by (args .up)) (at-loop .loop .held) (now (args .m)) (at-loop .loop .i) (omega arith)) ∙ at-loop .loop .inv .1
+    sym (walk-over (by (args .up)) (at-loop .loop .held) (now (args .m)) (at-loop .loop .i) (omega arith))
+    ∙ at-loop .loop .inv .1
 
 pub best-spec : {M : Type 1} → statement M
 best-spec =

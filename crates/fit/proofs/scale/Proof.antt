@@ -1,5 +1,5 @@
--- `fit::scale` meets its contract: the smallest limit, or 1 where no limit is under 1. That the answer lies in 0..1, and is 1 where the command fits, are laws about the
--- definition. Assumes nothing.
+-- `fit::scale` meets its contract: the smallest limit, or 1 where no limit is under 1. That the answer lies in 0..1,
+-- and is 1 where the command fits, are laws about the definition. Assumes nothing.
 use mathlib.Core.Path.{_≡_, sym, _∙_}
 use mathlib.Core.List.{List}
 use Prim.Native.Nat.{ℕ}
@@ -15,7 +15,8 @@ use Rattle.fit.proofs.Cut.{uncut-scale}
 use Rattle.fit.proofs.scale.Statement.{statement}
 use Rattle.fit.proofs.scale.Tie as tie
 
-keeps : (floor : Float) (bs ds : List Float) → T (fits binary32 floor) → ((k : ℕ) → T (fits binary32 (getD bs k nan))) → ((k : ℕ) → T (fits binary32 (getD ds k nan)))
+keeps : (floor : Float) (bs ds : List Float) → T (fits binary32 floor) → ((k : ℕ) → T (fits binary32 (getD bs k nan)))
+    → ((k : ℕ) → T (fits binary32 (getD ds k nan)))
     → {r : Float} → r ≡ fitScale floor bs ds → Scaled floor bs ds r
 keeps floor bs ds ff fb fd is =
     record {
@@ -29,13 +30,15 @@ returns : tie.Need-returns
 returns c =
     let known = c .before .before .before in
     let start = known .before .before in
-    keeps _ _ _ (rw (start .good .1 .1 .0 .1) tt) (known .before .shared-slice-known .given) (known .shared-slice-known2 .given) (c .smallest .ensures)
+    keeps _ _ _ (rw (start .good .1 .1 .0 .1) tt) (known .before .shared-slice-known .given)
+    (known .shared-slice-known2 .given) (c .smallest .ensures)
 
 returns-2 : tie.Need-returns-2
 returns-2 c =
     let known = c .before .before in
     let start = known .before .before in
-    keeps _ _ _ (rw (start .good .1 .1 .0 .1) tt) (known .before .shared-slice-known .given) (known .shared-slice-known2 .given)
+    keeps _ _ _ (rw (start .good .1 .1 .0 .1) tt) (known .before .shared-slice-known .given)
+    (known .shared-slice-known2 .given)
     (sym (uncut-scale _ _ _ (sym (c .before .is-cut .ensures) ∙ c .if1 .left)))
 
 pub scale-spec : {M : Type 1} → statement M

@@ -1,5 +1,6 @@
--- `fit::smallest` meets its contract. The loop's invariant: what is left to walk, from the scale held, gives the whole walk, and that scale is a number of at most 1. An element's
--- offset, 4 bytes each, fits a `usize` since a slice's bytes do. Assumes nothing.
+-- `fit::smallest` meets its contract. The loop's invariant: what is left to walk, from the scale held, gives the whole
+-- walk, and that scale is a number of at most 1. An element's offset, 4 bytes each, fits a `usize` since a slice's
+-- bytes do. Assumes nothing.
 use mathlib.Core.Path.{_≡_, refl, sym, ap, _∙_}
 use Prim.Native.Nat.{_+_, _-_, _≤_, min}
 use native.Mathlib.Omega.{arith}
@@ -16,7 +17,8 @@ use Rattle.fit.proofs.smallest.Tie as tie
 
 abbrev Inv-loop : tie.InvT-loop
 Inv-loop base delta floor n s₀ i₀ s i =
-    (n ≡ min (length base) (length delta)) × (i ≤ n) × (walk floor s (drop i base) (drop i delta) ≡ walk floor 1f base delta) × Held s
+    (n ≡ min (length base) (length delta)) × (i ≤ n)
+    × (walk floor s (drop i base) (drop i delta) ≡ walk floor 1f base delta) × Held s
 
 abbrev μ-loop : tie.MeasureT-loop
 μ-loop base delta floor n s₀ i₀ s i = n - i
@@ -25,10 +27,15 @@ loop-holds : tie.Need-loop-holds Inv-loop μ-loop
 loop-holds c = (c .shorter .ensures, omega arith, refl, one-held)
 
 mul-tighten : tie.Need-mul-tighten Inv-loop μ-loop
-mul-tighten c = scaled-fits (c .before .loop .i) (length (now (c .before .before .before .before .before .args .base))) 4 (omega arith) (c .before .before .before .before .before .good .0 .1)
+mul-tighten c =
+    scaled-fits (c .before .loop .i) (length (now (c .before .before .before .before .before .args .base))) 4
+    (omega arith) (c .before .before .before .before .before .good .0 .1)
 
 mul-tighten-2 : tie.Need-mul-tighten-2 Inv-loop μ-loop
-mul-tighten-2 c = scaled-fits (c .before .before .loop .i) (length (now (c .before .before .before .before .before .before .args .delta))) 4 (omega arith) (c .before .before .before .before .before .before .good .1 .0 .1)
+mul-tighten-2 c =
+    scaled-fits (c .before .before .loop .i)
+    (length (now (c .before .before .before .before .before .before .args .delta))) 4 (omega arith)
+    (c .before .before .before .before .before .before .good .1 .0 .1)
 
 loop-again : tie.Need-loop-again Inv-loop μ-loop
 loop-again c =
@@ -56,7 +63,8 @@ returns c =
     let inv = at-loop .loop .inv in
     c .pick .ensures
     ∙ held-settles s (inv .3)
-    ∙ ap settled (sym (walk-over (start .args .floor) s (now (start .args .base)) (now (start .args .delta)) (at-loop .loop .i) (omega arith)) ∙ inv .2)
+    ∙ ap settled (sym (walk-over (start .args .floor) s (now (start .args .base)) (now (start .args .delta))
+    (at-loop .loop .i) (omega arith)) ∙ inv .2)
 
 pub smallest-spec : {M : Type 1} → statement M
 smallest-spec =

@@ -1,4 +1,5 @@
--- `fit::tighten` meets its contract: the motor's limit where it is smaller, which a limit of 1 never is. Assumes nothing.
+-- `fit::tighten` meets its contract: the motor's limit where it is smaller, which a limit of 1 never is. Assumes
+-- nothing.
 use borrow.Author.Needs.{needs}
 use Rattle.fit.proofs.Step.{limited-step}
 use Rattle.fit.proofs.tighten.Statement.{statement}

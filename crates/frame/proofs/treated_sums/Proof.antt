@@ -1,4 +1,5 @@
--- `frame::treated_sums` meets its contract. The loop's invariant: the sums up to i are filled in, treated, and the others are as they were. Assumes nothing.
+-- `frame::treated_sums` meets its contract. The loop's invariant: the sums up to i are filled in, treated, and the
+-- others are as they were. Assumes nothing.
 use mathlib.Core.Path.{_≡_, refl, sym, _∙_}
 use mathlib.Core.List.{List, map, map-map}
 use Prim.Native.Nat.{_-_, _≤_, _<_}
@@ -21,12 +22,14 @@ abbrev sumOf : Float → Float → Float → Float → Row → Float
 sumOf t r p y row = treated (rawSum t r p y row)
 
 rule-is : (rows : List Row) (torque : List Float) (thrust : Float)
-    → map (sumOf (treated thrust) (roll torque) (pitch torque) (yaw torque)) rows ≡ map treated (rawSums rows torque thrust)
+    → map (sumOf (treated thrust) (roll torque) (pitch torque) (yaw torque)) rows
+    ≡ map treated (rawSums rows torque thrust)
 unfolding rawSums
 rule-is rows torque thrust = sym (map-map treated _ rows)
 
 abbrev Inv-loop : tie.InvT-loop
-Inv-loop rows thrust m₀ t r p y i₀ m i = (i ≤ length m₀) × (length m ≡ length m₀) × (m ≡ filled m₀ (map (sumOf t r p y) (rowsOf rows)) i)
+Inv-loop rows thrust m₀ t r p y i₀ m i =
+    (i ≤ length m₀) × (length m ≡ length m₀) × (m ≡ filled m₀ (map (sumOf t r p y) (rowsOf rows)) i)
 
 abbrev μ-loop : tie.MeasureT-loop
 μ-loop rows thrust m₀ t r p y i₀ m i = length m₀ - i

@@ -1,5 +1,5 @@
--- `frame::wrench_of` meets its contract. The loop's invariant: what is left to add to each of the four sums, from what is held, gives the whole sum.
--- Assumes nothing.
+-- `frame::wrench_of` meets its contract. The loop's invariant: what is left to add to each of the four sums, from what
+-- is held, gives the whole sum. Assumes nothing.
 use mathlib.Core.Path.{_≡_, refl, sym, _∙_}
 use mathlib.Core.List.{List, map}
 use Prim.Native.Nat.{ℕ, _+_, _*_, _-_, _≤_, _<_}
@@ -21,24 +21,30 @@ use Rattle.frame.proofs.wrench_of.Tie as tie
 -- what is left to add to a column's sum, from s, gives the whole sum
 abbrev Left : (Row → Float) → Float → List Float → List Float → ℕ → Type 0
 Left column s run motors i =
-    summed column s (drop i (rowsOf run)) (drop i (map treated motors)) ≡ summed column 0f (rowsOf run) (map treated motors)
+    summed column s (drop i (rowsOf run)) (drop i (map treated motors))
+    ≡ summed column 0f (rowsOf run) (map treated motors)
 
-module _ (column : Row → Float) (s : Float) (run motors : List Float) (i : ℕ) (four-each : length run ≡ 4 * length motors) (left : Left column s run motors i) where
+module _ (column : Row → Float) (s : Float) (run motors : List Float) (i : ℕ)
+    (four-each : length run ≡ 4 * length motors) (left : Left column s run motors i) where
   -- a turn adds the product of the row and the treated motor that stand there
   turn : (row : Row) (m : Float) → i < length motors → row ≡ rowAt run i → m ≡ treated (getD motors i nan)
       → Left column (s +f column row *f m) run motors (i + 1)
   unfolding rowAt
   turn row m h is-row is-motor =
       rw (is-row, is-motor, sym (map-at treated nan nan motors i h))
-      (summed-next column s (rowsOf run) (map treated motors) i (omega (arith, rows-count (length motors) run four-each)) (omega (arith, length-map motors treated)) ∙ left)
+      (summed-next column s (rowsOf run) (map treated motors) i
+      (omega (arith, rows-count (length motors) run four-each)) (omega (arith, length-map motors treated)) ∙ left)
 
   -- after the last nothing is left
   whole : length motors ≤ i → s ≡ summed column 0f (rowsOf run) (map treated motors)
-  whole h = sym (summed-over column s (rowsOf run) (map treated motors) i (omega (arith, rows-count (length motors) run four-each))) ∙ left
+  whole h =
+      sym (summed-over column s (rowsOf run) (map treated motors) i
+      (omega (arith, rows-count (length motors) run four-each))) ∙ left
 
 abbrev Inv-loop : tie.InvT-loop
 Inv-loop rows motors thrust₀ roll₀ pitch₀ yaw₀ i₀ thrust roll pitch yaw i =
-    (i ≤ length motors) × Left thrustOf thrust rows motors i × Left rollOf roll rows motors i × Left pitchOf pitch rows motors i × Left yawOf yaw rows motors i
+    (i ≤ length motors) × Left thrustOf thrust rows motors i × Left rollOf roll rows motors i
+    × Left pitchOf pitch rows motors i × Left yawOf yaw rows motors i
 
 abbrev μ-loop : tie.MeasureT-loop
 μ-loop rows motors thrust₀ roll₀ pitch₀ yaw₀ i₀ thrust roll pitch yaw i = length motors - i

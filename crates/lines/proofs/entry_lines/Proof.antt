@@ -1,4 +1,5 @@
--- `lines::entry_lines` meets its contract. The loop's invariant: what is left, written at the place reached, gives the whole. Assumes nothing.
+-- `lines::entry_lines` meets its contract. The loop's invariant: what is left, written at the place reached, gives the
+-- whole. Assumes nothing.
 use mathlib.Core.Path.{_≡_}
 use mathlib.Core.List.{List}
 use Prim.Native.Nat.{ℕ, _-_, _*_, _≤_}
@@ -15,7 +16,8 @@ use Rattle.lines.proofs.entry_lines.Tie as tie
 abbrev Inv-loop : tie.InvT-loop
 Inv-loop sheet answers text₀ k i₀ at₀ text i at =
     (i ≤ k) × (at ≤ 53 * i) × (at ≤ length text)
-    × ((after : List ℕ) (r : ℕ) → Put (53 * (k - i)) (linesFrom sheet answers i (k - i)) text at after r → Put (53 * k) (linesFrom sheet answers 0 k) text₀ 0 after r)
+    × ((after : List ℕ) (r : ℕ) → Put (53 * (k - i)) (linesFrom sheet answers i (k - i)) text at after r
+    → Put (53 * k) (linesFrom sheet answers 0 k) text₀ 0 after r)
 
 abbrev μ-loop : tie.MeasureT-loop
 μ-loop sheet answers text₀ k i₀ at₀ text i at = k - i
@@ -33,7 +35,8 @@ loop-again c =
       omega arith,
       omega arith,
       put-within line,
-      λ after r h. at-loop .loop .inv .3 after r (put-lines (now (args .sheet)) (now (args .answers)) i k (omega arith) line h),
+      λ after r h. at-loop .loop .inv .3 after r
+          (put-lines (now (args .sheet)) (now (args .answers)) i k (omega arith) line h),
     )
 
 returns : tie.Need-returns Inv-loop μ-loop
@@ -46,7 +49,8 @@ returns c =
     let text = at-loop .loop .text in
     let at = at-loop .loop .at in
     let none : k - i ≡ 0 = omega arith in
-    let left : Put (53 * (k - i)) (linesFrom (now (args .sheet)) (now (args .answers)) i (k - i)) text at text at = rw none (put-nothing (at-loop .loop .inv .2)) in
+    let left : Put (53 * (k - i)) (linesFrom (now (args .sheet)) (now (args .answers)) i (k - i)) text at text at =
+    rw none (put-nothing (at-loop .loop .inv .2)) in
     let whole = put-written (omega arith) (at-loop .loop .inv .3 text at left) in
     rw (← at-loop .before .count .ensures) whole
 

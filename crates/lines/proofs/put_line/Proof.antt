@@ -1,4 +1,5 @@
--- `lines::put_line` meets its contract: the head, the five words and the LF are written one after the other. Assumes nothing.
+-- `lines::put_line` meets its contract: the head, the five words and the LF are written one after the other. Assumes
+-- nothing.
 use native.Mathlib.Nat.{add-zero}
 use borrow.Author.Needs.{needs}
 use Rattle.lines.specs.Lines.{lineOf}

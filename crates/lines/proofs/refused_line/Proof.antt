@@ -9,13 +9,13 @@ use Rattle.lines.proofs.refused_line.Tie as tie
 returns : tie.Need-returns
 unfolding refusedLine
 returns c =
-    let entry = c .before .before .before in
-    let between = entry .before .before in
+    let second = c .before .before .before in
+    let between = second .before .before in
     let number = between .before .before .before in
     let first = number .before .before in
     let one = put-then (first .put .ensures) (number .put-decimal .ensures) in
     let two = put-then one (between .put2 .ensures) in
-    let three = put-then two (entry .put-decimal2 .ensures) in
+    let three = put-then two (second .put-decimal2 .ensures) in
     put-written (omega arith) (put-then three (c .put3 .ensures))
 
 pub refused-line-spec : {M : Type 1} → statement M

@@ -1,4 +1,5 @@
--- `lowering::lower_and_limit` meets its contract. The loop's invariant: the motors up to i are filled with the rule's, and the others are as they were. Assumes nothing.
+-- `lowering::lower_and_limit` meets its contract. The loop's invariant: the motors up to i are filled with the rule's,
+-- and the others are as they were. Assumes nothing.
 use mathlib.Core.Path.{_≡_, refl, sym, _∙_}
 use mathlib.Core.Bool.{cond}
 use mathlib.Core.List.{List, map, map-map}
@@ -29,7 +30,9 @@ rule-is xs = sym (map-map (λ x. floorClamp x 0f) (loweredBy (largest xs)) xs)
 -- ---- the loop
 
 abbrev Inv-loop : tie.InvT-loop
-Inv-loop m₀ over i₀ m i = (over ≡ cond (lt 1f (largest m₀)) (largest m₀ -f 1f) 0f) × (i ≤ length m₀) × (length m ≡ length m₀) × (m ≡ filled m₀ (map (lowerOne m₀) m₀) i)
+Inv-loop m₀ over i₀ m i =
+    (over ≡ cond (lt 1f (largest m₀)) (largest m₀ -f 1f) 0f) × (i ≤ length m₀) × (length m ≡ length m₀)
+    × (m ≡ filled m₀ (map (lowerOne m₀) m₀) i)
 
 abbrev μ-loop : tie.MeasureT-loop
 μ-loop m₀ over i₀ m i = length m₀ - i
@@ -59,7 +62,8 @@ loop-again c =
       omega arith,
       length-set m i _ ∙ inv .2,
       fill-in-place (lowerOne m₀) m₀ m i nan (omega arith) (inv .3)
-          (c .clamp-floor .ensures ∙ rw (inv .0, excess-taken (largest m₀) (getD m i nan) (c .before .slice-known2 .given i))),
+          (c .clamp-floor .ensures
+          ∙ rw (inv .0, excess-taken (largest m₀) (getD m i nan) (c .before .slice-known2 .given i))),
     )
 
 returns : tie.Need-returns Inv-loop μ-loop

@@ -9,7 +9,9 @@ array-share-prefix-text : tie.Need-array-share-prefix-text
 array-share-prefix-text c = c .text-of .ensures .within
 
 slice-aggregate-write-all : tie.Need-slice-aggregate-write-all
-slice-aggregate-write-all c = let printed = c .before .text-of in sym (length-take-le (printed .result) (printed .last .1 .0) (printed .ensures .within))
+slice-aggregate-write-all c =
+    let printed = c .before .text-of in
+    sym (length-take-le (printed .result) (printed .last .1 .0) (printed .ensures .within))
 
 pub main-spec : {M : Type 1} → statement M
 main-spec =

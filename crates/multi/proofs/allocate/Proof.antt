@@ -1,4 +1,5 @@
--- `multi::allocate` meets its contract. The loop's invariant: the outputs up to i are filled with the rule's motors, and the others are as they were. Assumes nothing.
+-- `multi::allocate` meets its contract. The loop's invariant: the outputs up to i are filled with the rule's motors,
+-- and the others are as they were. Assumes nothing.
 use mathlib.Core.Path.{_≡_, refl, _∙_}
 use mathlib.Core.List.{map}
 use Prim.Native.Nat.{_-_, _≤_, _<_}
@@ -22,7 +23,8 @@ abbrev motorOf : Wrench → Row → Float
 motorOf w row = unitClamp (rawSum (w .thrust) (w .roll) (w .pitch) (w .yaw) row)
 
 abbrev Inv-loop : tie.InvT-loop
-Inv-loop rows w out₀ n i₀ out i = (i ≤ length out₀) × (length out ≡ length out₀) × (out ≡ filled out₀ (map (motorOf w) (rowsOf rows)) i)
+Inv-loop rows w out₀ n i₀ out i =
+    (i ≤ length out₀) × (length out ≡ length out₀) × (out ≡ filled out₀ (map (motorOf w) (rowsOf rows)) i)
 
 abbrev μ-loop : tie.MeasureT-loop
 μ-loop rows w out₀ n i₀ out i = length out₀ - i
@@ -56,7 +58,8 @@ returns c =
     let at-loop = c .before in
     let start = at-loop .before .before .before in
     let out₀ = now (start .args .out) in
-    at-loop .loop .inv .2 ∙ filled-from-rows (motorOf (start .args .w)) (now (start .args .rows)) out₀ (start .pre) (at-loop .loop .i) (omega arith)
+    at-loop .loop .inv .2 ∙ filled-from-rows (motorOf (start .args .w)) (now (start .args .rows)) out₀ (start .pre)
+    (at-loop .loop .i) (omega arith)
 
 pub allocate-spec : {M : Type 1} → statement M
 allocate-spec =

@@ -1,4 +1,5 @@
--- `multi::hex_x` meets its contract by computing: the table holds document 01's six rows, number by number. Assumes nothing.
+-- `multi::hex_x` meets its contract by computing: the table holds document 01's six rows, number by number. Assumes
+-- nothing.
 use mathlib.Core.Path.{refl}
 use Rattle.rules.specs.Rows.{runOf, hexRows}
 use Rattle.multi.proofs.hex_x.Statement.{statement}

@@ -1,4 +1,5 @@
--- `multi::mix` meets its contract: refused, the outputs are as they were; else they are the motors of the run's rows, which lie in 0..1. Assumes nothing.
+-- `multi::mix` meets its contract: refused, the outputs are as they were; else they are the motors of the run's rows,
+-- which lie in 0..1. Assumes nothing.
 use mathlib.Core.Path.{sym, _∙_}
 use lib.ListN.{length}
 use denote.Ref.{now}
@@ -14,7 +15,8 @@ returns c = answer-refused (sym (c .before .refused .ensures) ∙ c .if1 .taken)
 allocate-requires : tie.Need-allocate-requires
 allocate-requires c κs =
     let start = c .before .before .before .before .before in
-    four-each (length (now (start .args .rows))) (length (now (start .args .out))) (sym (c .before .before .refused .ensures) ∙ c .before .if1 .left)
+    four-each (length (now (start .args .rows))) (length (now (start .args .out)))
+    (sym (c .before .before .refused .ensures) ∙ c .before .if1 .left)
 
 returns-2 : tie.Need-returns-2
 returns-2 c =

@@ -6,7 +6,8 @@ use Rattle.multi.proofs.mix_hex_x.Statement.{statement}
 use Rattle.multi.proofs.mix_hex_x.Tie as tie
 
 returns : tie.Need-returns
-returns c = allocated-by-table (c .before .allocate .ensures) (c .before .before .before .before .hex-x .ensures) hex-rows
+returns c =
+    allocated-by-table (c .before .allocate .ensures) (c .before .before .before .before .hex-x .ensures) hex-rows
 
 pub mix-hex-x-spec : {M : Type 1} → statement M
 mix-hex-x-spec =

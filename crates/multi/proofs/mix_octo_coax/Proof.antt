@@ -6,7 +6,8 @@ use Rattle.multi.proofs.mix_octo_coax.Statement.{statement}
 use Rattle.multi.proofs.mix_octo_coax.Tie as tie
 
 returns : tie.Need-returns
-returns c = allocated-by-table (c .before .allocate .ensures) (c .before .before .before .before .octo-coax .ensures) octo-rows
+returns c =
+    allocated-by-table (c .before .allocate .ensures) (c .before .before .before .before .octo-coax .ensures) octo-rows
 
 pub mix-octo-coax-spec : {M : Type 1} → statement M
 mix-octo-coax-spec =

@@ -1,4 +1,5 @@
--- `multi::octo_coax` meets its contract by computing: the table holds document 01's eight rows, number by number. Assumes nothing.
+-- `multi::octo_coax` meets its contract by computing: the table holds document 01's eight rows, number by number.
+-- Assumes nothing.
 use mathlib.Core.Path.{refl}
 use Rattle.rules.specs.Rows.{runOf, octoRows}
 use Rattle.multi.proofs.octo_coax.Statement.{statement}

@@ -1,4 +1,5 @@
--- `multi_thrust_floor::ask` meets its contract. The loop's invariant: the outputs up to i are filled with the rule's deltas, and the others are as they were. Assumes nothing.
+-- `multi_thrust_floor::ask` meets its contract. The loop's invariant: the outputs up to i are filled with the rule's
+-- deltas, and the others are as they were. Assumes nothing.
 use mathlib.Core.Path.{_≡_, refl, _∙_}
 use mathlib.Core.List.{map}
 use Prim.Native.Nat.{_-_, _≤_, _<_}
@@ -15,7 +16,8 @@ use Rattle.multi_thrust_floor.proofs.ask.Statement.{statement}
 use Rattle.multi_thrust_floor.proofs.ask.Tie as tie
 
 abbrev Inv-loop : tie.InvT-loop
-Inv-loop rows out₀ r p y n i₀ out i = (i ≤ length out₀) × (length out ≡ length out₀) × (out ≡ filled out₀ (map (delta r p y) (rowsOf rows)) i)
+Inv-loop rows out₀ r p y n i₀ out i =
+    (i ≤ length out₀) × (length out ≡ length out₀) × (out ≡ filled out₀ (map (delta r p y) (rowsOf rows)) i)
 
 abbrev μ-loop : tie.MeasureT-loop
 μ-loop rows out₀ r p y n i₀ out i = length out₀ - i
@@ -37,7 +39,8 @@ loop-again c =
     let bound : i < length out₀ = omega arith in (
       omega arith,
       length-set out i _ ∙ inv .1,
-      fill-from-row _ (now (start .args .rows)) out₀ (start .pre) out i nan bound (inv .2) (c .delta .ensures ∙ rw (c .before .row-at .ensures)),
+      fill-from-row _ (now (start .args .rows)) out₀ (start .pre) out i nan bound (inv .2)
+          (c .delta .ensures ∙ rw (c .before .row-at .ensures)),
     )
 
 returns : tie.Need-returns Inv-loop μ-loop
@@ -47,8 +50,13 @@ returns c =
     let sanitised = at-loop .before in
     let start = sanitised .before .before .before .before .before in
     at-loop .loop .inv .2
-    ∙ filled-from-rows _ (now (start .args .rows)) (now (start .args .out)) (start .pre) (at-loop .loop .i) (omega arith)
-    ∙ rw (sanitised .sanitise3 .ensures, sanitised .before .sanitise2 .ensures, sanitised .before .before .sanitise .ensures)
+    ∙ filled-from-rows _ (now (start .args .rows)) (now (start .args .out)) (start .pre)
+    (at-loop .loop .i) (omega arith)
+    ∙ rw (
+      sanitised .sanitise3 .ensures,
+      sanitised .before .sanitise2 .ensures,
+      sanitised .before .before .sanitise .ensures,
+    )
 
 pub ask-spec : {M : Type 1} → statement M
 ask-spec =

@@ -1,4 +1,5 @@
--- `multi_thrust_floor::give` meets its contract. The loop's invariant: the numbers up to i are filled with the rule's motors, and the others are as they were. Assumes nothing.
+-- `multi_thrust_floor::give` meets its contract. The loop's invariant: the numbers up to i are filled with the rule's
+-- motors, and the others are as they were. Assumes nothing.
 use mathlib.Core.Path.{_≡_, refl, _∙_}
 use mathlib.Core.List.{map}
 use Prim.Native.Nat.{_-_, _≤_}
@@ -13,7 +14,8 @@ use Rattle.multi_thrust_floor.proofs.give.Statement.{statement}
 use Rattle.multi_thrust_floor.proofs.give.Tie as tie
 
 abbrev Inv-loop : tie.InvT-loop
-Inv-loop floor base s d₀ i₀ d i = (i ≤ length d₀) × (length d ≡ length d₀) × (d ≡ filled d₀ (map (scaledMotor floor base s) d₀) i)
+Inv-loop floor base s d₀ i₀ d i =
+    (i ≤ length d₀) × (length d ≡ length d₀) × (d ≡ filled d₀ (map (scaledMotor floor base s) d₀) i)
 
 abbrev μ-loop : tie.MeasureT-loop
 μ-loop floor base s d₀ i₀ d i = length d₀ - i
@@ -36,8 +38,11 @@ loop-again c =
     let d₀ = now (start .args .d) in
     let d = at-loop .loop .d in
     let i = at-loop .loop .i in
-    let inv = at-loop .loop .inv in
-    (omega arith, length-set d i _ ∙ inv .1, fill-in-place _ d₀ d i nan (omega arith) (inv .2) (c .scaled-motor .ensures))
+    let inv = at-loop .loop .inv in (
+      omega arith,
+      length-set d i _ ∙ inv .1,
+      fill-in-place _ d₀ d i nan (omega arith) (inv .2) (c .scaled-motor .ensures),
+    )
 
 returns : tie.Need-returns Inv-loop μ-loop
 returns c =

@@ -1,4 +1,5 @@
--- `multi_thrust_floor::grant` meets its contract: of one base for all there may be more than there are deltas. Assumes nothing.
+-- `multi_thrust_floor::grant` meets its contract: of one base for all there may be more than there are deltas. Assumes
+-- nothing.
 use mathlib.Core.Path.{_∙_}
 use denote.Ref.{now}
 use borrow.Author.Needs.{needs}

@@ -1,4 +1,5 @@
--- `multi_thrust_floor::mix` meets its contract: refused, the outputs are as they were; else they are the motors of the run's rows, at their scale. Assumes nothing.
+-- `multi_thrust_floor::mix` meets its contract: refused, the outputs are as they were; else they are the motors of the
+-- run's rows, at their scale. Assumes nothing.
 use mathlib.Core.Path.{sym, _∙_}
 use lib.ListN.{length}
 use denote.Ref.{now}
@@ -16,7 +17,8 @@ ask-requires : tie.Need-ask-requires
 ask-requires c κs =
     let at-if = c .before in
     let start = at-if .before .before .before .before in
-    four-each (length (now (start .args .rows))) (length (now (start .args .out))) (sym (at-if .before .refused .ensures) ∙ at-if .if1 .left)
+    four-each (length (now (start .args .rows))) (length (now (start .args .out)))
+    (sym (at-if .before .refused .ensures) ∙ at-if .if1 .left)
 
 grant-requires : tie.Need-grant-requires
 grant-requires c κs =
@@ -26,7 +28,8 @@ grant-requires c κs =
     let rows = now (start .args .rows) in
     let outputs = length (now (start .args .out)) in
     let kept = sym (at-if .before .refused .ensures) ∙ at-if .if1 .left in
-    rw (asked-count rows (wrenchTorque (start .args .w)) outputs (at-ask .ask .ensures) (four-each (length rows) outputs kept)) (within-most (length rows) outputs kept)
+    rw (asked-count rows (wrenchTorque (start .args .w)) outputs (at-ask .ask .ensures)
+    (four-each (length rows) outputs kept)) (within-most (length rows) outputs kept)
 
 returns-2 : tie.Need-returns-2
 returns-2 c =

@@ -10,9 +10,11 @@ returns c =
     let at-ask = c .before .before .before .before in
     let at-rows = at-ask .before .before .before in
     let good = at-rows .before .good in
-    floored-by-table (at-rows .hex-x .ensures) hex-rows (good .0 .1 .1 .0 .1) (good .1 .0 .1) (at-ask .ask .ensures) (c .before .grant .ensures)
+    floored-by-table (at-rows .hex-x .ensures) hex-rows (good .0 .1 .1 .0 .1) (good .1 .0 .1) (at-ask .ask .ensures)
+    (c .before .grant .ensures)
 
 pub mix-hex-x-spec : {M : Type 1} → statement M
 mix-hex-x-spec =
     tie.close
-    (tie.spec (λ c κs. search needs) (λ c. search needs) (λ c. search needs) (λ c κs. search needs) (λ c. search needs) (λ c κs. search needs) returns)
+    (tie.spec (λ c κs. search needs) (λ c. search needs) (λ c. search needs) (λ c κs. search needs)
+    (λ c. search needs) (λ c κs. search needs) returns)

@@ -1,4 +1,5 @@
--- `multi_thrust_floor::mix_octo_coax` meets its contract: the rows of the table's run are document 01's. Assumes nothing.
+-- `multi_thrust_floor::mix_octo_coax` meets its contract: the rows of the table's run are document 01's. Assumes
+-- nothing.
 use borrow.Author.Needs.{needs}
 use Rattle.rules.proofs.Rows.{octo-rows}
 use Rattle.multi_thrust_floor.proofs.Answers.{floored-by-table}
@@ -10,9 +11,11 @@ returns c =
     let at-ask = c .before .before .before .before in
     let at-rows = at-ask .before .before .before in
     let good = at-rows .before .good in
-    floored-by-table (at-rows .octo-coax .ensures) octo-rows (good .0 .1 .1 .0 .1) (good .1 .0 .1) (at-ask .ask .ensures) (c .before .grant .ensures)
+    floored-by-table (at-rows .octo-coax .ensures) octo-rows (good .0 .1 .1 .0 .1) (good .1 .0 .1)
+    (at-ask .ask .ensures) (c .before .grant .ensures)
 
 pub mix-octo-coax-spec : {M : Type 1} → statement M
 mix-octo-coax-spec =
     tie.close
-    (tie.spec (λ c κs. search needs) (λ c. search needs) (λ c. search needs) (λ c κs. search needs) (λ c. search needs) (λ c κs. search needs) returns)
+    (tie.spec (λ c κs. search needs) (λ c. search needs) (λ c. search needs) (λ c κs. search needs)
+    (λ c. search needs) (λ c κs. search needs) returns)

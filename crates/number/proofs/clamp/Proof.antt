@@ -1,4 +1,5 @@
--- `number::clamp` meets its contract: the two choices are those of `clamped`, the inner one made first. Assumes nothing.
+-- `number::clamp` meets its contract: the two choices are those of `clamped`, the inner one made first. Assumes
+-- nothing.
 use borrow.Author.Needs.{needs}
 use Rattle.number.specs.Treat.{clamped}
 use Rattle.number.proofs.clamp.Statement.{statement}

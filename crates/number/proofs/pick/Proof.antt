@@ -1,4 +1,5 @@
--- `number::pick` meets its contract: each arm returns what `cond` chooses where t is as the arm found it. Assumes nothing.
+-- `number::pick` meets its contract: each arm returns what `cond` chooses where t is as the arm found it. Assumes
+-- nothing.
 use Rattle.number.proofs.pick.Statement.{statement}
 use Rattle.number.proofs.pick.Tie as tie
 

@@ -1,4 +1,5 @@
--- `priority::roll_pitch_group` meets its contract: the products are those of `rollPitchGroup`, treated. Assumes nothing.
+-- `priority::roll_pitch_group` meets its contract: the products are those of `rollPitchGroup`, treated. Assumes
+-- nothing.
 use borrow.Author.Needs.{needs}
 use Rattle.rules.specs.Priority.{rollPitchGroup}
 use Rattle.priority.proofs.roll_pitch_group.Statement.{statement}

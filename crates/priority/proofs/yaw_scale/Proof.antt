@@ -1,4 +1,5 @@
--- `priority::yaw_scale` meets its contract: the bases are the collective and the four roll/pitch groups. Assumes nothing.
+-- `priority::yaw_scale` meets its contract: the bases are the collective and the four roll/pitch groups. Assumes
+-- nothing.
 use mathlib.Core.Path.{_≡_, sym, ap}
 use mathlib.Core.List.{List}
 use native.Mathlib.Omega.{arith}
@@ -16,7 +17,8 @@ returns c =
     let args = c .before .before .before .args in
     let drp = args .t3 in
     let length : length drp ≡ 4 = omega arith in
-    simp (c .scale .ensures .is) (ap (λ (rps : List Float). yawScale (args .floor) (args .base) rps (args .t4)) (sym (four drp length)))
+    simp (c .scale .ensures .is)
+    (ap (λ (rps : List Float). yawScale (args .floor) (args .base) rps (args .t4)) (sym (four drp length)))
 
 pub yaw-scale-spec : {M : Type 1} → statement M
 yaw-scale-spec =

@@ -1,4 +1,5 @@
--- `rotor_out::motors_without` meets its contract: the four motors are those of `motorsWithout`, at the fit scale. Assumes nothing.
+-- `rotor_out::motors_without` meets its contract: the four motors are those of `motorsWithout`, at the fit scale.
+-- Assumes nothing.
 use borrow.Author.Needs.{needs}
 use Rattle.rules.specs.RotorOut.{motorsWithout}
 use Rattle.rotor_out.proofs.motors_without.Statement.{statement}

@@ -1,5 +1,5 @@
--- `sheet::check_entries` meets its contract. The invariant: `end` is where the body of entry i has to begin, and what is told of the entries from i on is what is told of
--- all. Assumes nothing.
+-- `sheet::check_entries` meets its contract. The invariant: `end` is where the body of entry i has to begin, and what
+-- is told of the entries from i on is what is told of all. Assumes nothing.
 use mathlib.Core.Path.{_≡_, sym, ap, ap₂, _∙_}
 use Prim.Native.Nat.{_+_, _-_, _≤_}
 use native.Mathlib.Omega.{arith}
@@ -7,14 +7,16 @@ use lib.ListN.{length}
 use borrow.Author.Needs.{needs}
 use Rattle.entries.specs.Layout.{countOf, bodySize, bodyAt}
 use Rattle.sheet.specs.Table.{entriesTold}
-use Rattle.entries.proofs.Answers.{never-accepted}
+use Rattle.entries.proofs.Chosen.{never-accepted}
 use Rattle.sheet.proofs.Verdicts.{accepted-number}
-use Rattle.sheet.proofs.Walk.{body-first, body-next, body-most, size-most, told-passed, told-refused, told-end, end-refused, end-accepted}
+use Rattle.sheet.proofs.Walk.{body-first, body-next, body-most, size-most, told-passed}
+use Rattle.sheet.proofs.Walk.{told-refused, told-end, end-refused, end-accepted}
 use Rattle.sheet.proofs.check_entries.Statement.{statement}
 use Rattle.sheet.proofs.check_entries.Tie as tie
 
 abbrev Inv-loop : tie.InvT-loop
-Inv-loop sheet k end₀ i₀ end i = (i ≤ k) × (end ≡ bodyAt sheet i) × (entriesTold sheet i (k - i) ≡ entriesTold sheet 0 (countOf sheet))
+Inv-loop sheet k end₀ i₀ end i =
+    (i ≤ k) × (end ≡ bodyAt sheet i) × (entriesTold sheet i (k - i) ≡ entriesTold sheet 0 (countOf sheet))
 
 abbrev μ-loop : tie.MeasureT-loop
 μ-loop sheet k end₀ i₀ end i = k - i
@@ -43,8 +45,8 @@ add-end c =
 
 loop-again : tie.Need-loop-again Inv-loop μ-loop
 loop-again c =
-    let entry = c .before .before in
-    let checked = entry .before .before in
+    let passed = c .before .before in
+    let checked = passed .before .before in
     let at = checked .before .before in
     let inv = at .loop .inv in
     let s = at .before .before .before .before .args .sheet .now in
@@ -52,7 +54,7 @@ loop-again c =
       omega arith,
       ap₂ _+_ (inv .1) (c .body-size .ensures ∙ ap bodySize (c .before .kind .ensures)) ∙ sym (body-next s i),
       sym (told-passed s i _ (checked .before .loop-test .taken)
-          (accepted-number (rw (inv .1) at (checked .check-entry .ensures)) (entry .enum-told .given .1))) ∙ inv .2,
+          (accepted-number (rw (inv .1) at (checked .check-entry .ensures)) (passed .enum-told .given .1))) ∙ inv .2,
     )
 
 returns-2 : tie.Need-returns-2 Inv-loop μ-loop

@@ -1,4 +1,5 @@
--- `sheet_run::judge` meets its contract: a refused sheet stays refused, and of an accepted one the output's length decides. Assumes nothing.
+-- `sheet_run::judge` meets its contract: a refused sheet stays refused, and of an accepted one the output's length
+-- decides. Assumes nothing.
 use mathlib.Core.Path.{_≡_, sym}
 use borrow.Author.Needs.{needs}
 use Rattle.refusals.specs.Numbers.{accepted}
@@ -25,7 +26,8 @@ returns-2 c =
 returns-3 : tie.Need-returns-3
 returns-3 c =
     let counted = c .before in
-    rw (counted .before .enum-told .given .1) (sym (output-fits _ _ (is (counted .before)) (rw (counted .count .ensures) at (c .if1 .left))))
+    rw (counted .before .enum-told .given .1)
+    (sym (output-fits _ _ (is (counted .before)) (rw (counted .count .ensures) at (c .if1 .left))))
 
 pub judge-spec : {M : Type 1} → statement M
 judge-spec =

@@ -1,5 +1,5 @@
--- `sheet_run::run_entries` meets its contract. The invariant: the commands that are left, from the state and the place reached, give the whole run's state and output.
--- Assumes nothing.
+-- `sheet_run::run_entries` meets its contract. The invariant: the commands that are left, from the state and the place
+-- reached, give the whole run's state and output. Assumes nothing.
 use mathlib.Core.Path.{_≡_, refl, sym, ap, _∙_, subst}
 use Prim.Native.Nat.{_+_, _*_, _-_, _≤_, _<_, ℕ}
 use native.Mathlib.Omega.{arith}
@@ -12,7 +12,7 @@ use Rattle.wire.proofs.LittleEndian.{writeAt-length}
 use Rattle.entries.specs.Layout.{countOf, kindOf, rotorOf}
 use Rattle.entries.specs.Choice.{ChosenBy}
 use Rattle.entries.specs.Entry.{commandWith, commandAt}
-use Rattle.entries.proofs.Answers.{chosen-case}
+use Rattle.entries.proofs.Chosen.{chosen-case}
 use Rattle.sheet.proofs.Accepted.{Accepted, is-accepted, never-refused}
 use Rattle.sheet_run.specs.Run.{called, commandsFrom, commandsOf, ran, answerOf, answersOf}
 use Rattle.sheet_run.proofs.Methods.{gives-called}
@@ -27,17 +27,20 @@ Inv-loop sheet state out₀ q₀ i₀ out q i =
     (i ≤ countOf sheet)
     × (length out ≡ length out₀)
     × (ran q (commandsFrom sheet i (countOf sheet - i)) ≡ ran q₀ (commandsOf sheet))
-    × (writeAt out (20 * i) (answersOf q (commandsFrom sheet i (countOf sheet - i))) ≡ writeAt out₀ 0 (answersOf q₀ (commandsOf sheet)))
+    × (writeAt out (20 * i) (answersOf q (commandsFrom sheet i (countOf sheet - i)))
+    ≡ writeAt out₀ 0 (answersOf q₀ (commandsOf sheet)))
 
 abbrev μ-loop : tie.MeasureT-loop
 μ-loop sheet state out₀ q₀ i₀ out q i = countOf sheet - i
 
 -- ---- what is known where the loop's test is passed
 
-under : (c : tie.Then1 Inv-loop μ-loop) → c .before .before .loop .i < countOf (c .before .before .before .before .before .args .sheet .now)
+under : (c : tie.Then1 Inv-loop μ-loop)
+    → c .before .before .loop .i < countOf (c .before .before .before .before .before .args .sheet .now)
 under c = rw (c .before .count .ensures) at (c .if1 .taken)
 
-room : (c : tie.At-loop Inv-loop μ-loop) → 20 * countOf (c .before .before .before .args .sheet .now) ≤ length (c .loop .out)
+room : (c : tie.At-loop Inv-loop μ-loop)
+    → 20 * countOf (c .before .before .before .args .sheet .now) ≤ length (c .loop .out)
 room c = rw (c .loop .inv .1) (c .before .before .before .pre .1)
 
 within : (c : tie.Then1 Inv-loop μ-loop) → 20 * c .before .before .loop .i + 20 ≤ length (c .before .before .loop .out)
@@ -75,8 +78,10 @@ written : (c : tie.After-write-answer Inv-loop μ-loop)
     ≡ writeAt (at .loop .out) (20 * at .loop .i) (answerOf (c .before .before .call .result))
 written c =
     let inside = turn (c .before .before .before .before .before .before .before) in
-    let place : 20 * inside .before .before .loop .i ≤ length (inside .before .before .loop .out) = omega (arith, within inside) in
-    rw (c .write-answer .ensures) (part-written (inside .before .before .loop .out) (20 * inside .before .before .loop .i) place _)
+    let place : 20 * inside .before .before .loop .i ≤ length (inside .before .before .loop .out) =
+    omega (arith, within inside) in
+    rw (c .write-answer .ensures)
+    (part-written (inside .before .before .loop .out) (20 * inside .before .before .loop .i) place _)
 
 -- ---- the needs
 
@@ -97,7 +102,8 @@ returns : tie.Need-returns Inv-loop μ-loop
 returns c =
     let looked = c .before .before .before in
     let inside = turn looked in
-    absurd (never-refused (known (inside .before .before)) (under inside) (subst (ChosenBy _ _) (c .before .chosen2 .given .1) (chosen looked)))
+    absurd (never-refused (known (inside .before .before)) (under inside)
+    (subst (ChosenBy _ _) (c .before .chosen2 .given .1) (chosen looked)))
 
 cast-at : tie.Need-cast-at Inv-loop μ-loop
 cast-at c = search needs
@@ -115,7 +121,9 @@ part-write-answer-end : tie.Need-part-write-answer-end Inv-loop μ-loop
 part-write-answer-end c = search needs
 
 write-answer-requires : tie.Need-write-answer-requires Inv-loop μ-loop
-write-answer-requires c κs = let fits = within (turn (c .before .before .before .before .before .before)) in simp (length-take, length-drop) (omega arith)
+write-answer-requires c κs =
+    let fits = within (turn (c .before .before .before .before .before .before)) in
+    simp (length-take, length-drop) (omega arith)
 
 add-i : tie.Need-add-i Inv-loop μ-loop
 add-i c = omega (arith, under (turn (c .before .before .before .before .before .before .before .before .before)))

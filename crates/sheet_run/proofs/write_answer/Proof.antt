@@ -1,8 +1,9 @@
--- `sheet_run::write_answer` meets its contract: four motors and the scale, written one after another, are the answer's bytes. Assumes nothing.
+-- `sheet_run::write_answer` meets its contract: four motors and the scale, written one after another, are the answer's
+-- bytes. Assumes nothing.
 use mathlib.Core.Path.{_≡_}
 use lib.ListN.{length}
 use borrow.Author.Needs.{needs}
-use Rattle.sheet_run.proofs.Answers.{five-written}
+use Rattle.sheet_run.proofs.AnswerBytes.{five-written}
 use Rattle.sheet_run.proofs.write_answer.Statement.{statement}
 use Rattle.sheet_run.proofs.write_answer.Tie as tie
 
@@ -20,7 +21,8 @@ returns c =
     let read = at-1 .before .before in
     let start = read .before .before in
     let is = read .last-motors .ensures in
-    five-written (start .args .out .now) (start .args .q .«last_motors») (start .args .q .«last_torque_scale») (count start) (start .pre)
+    five-written (start .args .out .now) (start .args .q .«last_motors») (start .args .q .«last_torque_scale»)
+    (count start) (start .pre)
     (rw is at (at-1 .write-float .ensures))
     (rw is at (at-2 .write-float2 .ensures))
     (rw is at (at-3 .write-float3 .ensures))

@@ -1,4 +1,5 @@
--- `sheets`'s `main`: the room for the list has as many bytes as it was made with, and what was read lies within it. Assumes nothing.
+-- `sheets`'s `main`: the room for the list has as many bytes as it was made with, and what was read lies within it.
+-- Assumes nothing.
 use mathlib.Core.Path.{refl, sym}
 use Prim.Native.Nat.{ℕ}
 use lib.ListN.{length-replicate}

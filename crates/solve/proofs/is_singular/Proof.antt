@@ -1,4 +1,5 @@
--- `solve::is_singular` meets its contract: a determinant that is not finite is told first, and only of a finite one is the size asked. Assumes nothing.
+-- `solve::is_singular` meets its contract: a determinant that is not finite is told first, and only of a finite one is
+-- the size asked. Assumes nothing.
 use borrow.Author.Needs.{needs}
 use Rattle.solve.specs.Solve.{singular}
 use Rattle.solve.proofs.is_singular.Statement.{statement}

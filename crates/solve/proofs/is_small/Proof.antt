@@ -1,4 +1,5 @@
--- `solve::is_small` meets its contract: the two comparisons say that the size is under small. Where the first fails, the second is not asked. Assumes nothing.
+-- `solve::is_small` meets its contract: the two comparisons say that the size is under small. Where the first fails,
+-- the second is not asked. Assumes nothing.
 use Rattle.binary32.proofs.Absolute.{absolute-below-small}
 use Rattle.solve.proofs.is_small.Statement.{statement}
 use Rattle.solve.proofs.is_small.Tie as tie

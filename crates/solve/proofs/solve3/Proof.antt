@@ -1,5 +1,6 @@
--- `solve::solve3` meets its contract. It returns at one place where the determinant is singular and at another where it is not, and each answer is that case of
--- `solution`: the code's `det` stands for the determinant in it, and the results of `unknown` for the three unknowns. Assumes nothing.
+-- `solve::solve3` meets its contract. It returns at one place where the determinant is singular and at another where it
+-- is not, and each answer is that case of `solution`: the code's `det` stands for the determinant in it, and the
+-- results of `unknown` for the three unknowns. Assumes nothing.
 use borrow.Author.Needs.{needs}
 use Rattle.solve.specs.Solve.{solution}
 use Rattle.solve.proofs.solve3.Statement.{statement}

@@ -21,7 +21,8 @@ returns-2 c = sym (writeAt-short _ _ _ (omega arith))
 
 -- the part from `at` on put back with s at its start
 put-back : (out s : List ℕ) (at : ℕ) → at + length s ≤ length out
-    → putMid at (length out - at) out (take (length s) s ++ drop (length s) (midOf at (length out - at) out)) ≡ writeAt out at s
+    → putMid at (length out - at) out (take (length s) s ++ drop (length s) (midOf at (length out - at) out))
+    ≡ writeAt out at s
 put-back out s at h =
     let place : at ≤ length out = omega arith in
     rw (part-lent out at place, part-back out at place, take-length, drop-drop, writeAt-fits out at s h, append-assoc)

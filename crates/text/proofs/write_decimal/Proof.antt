@@ -1,4 +1,5 @@
--- `text::write_decimal` meets its contract: the digits that io gives are the decimal digits, and 20 hold every u64. Assumes nothing.
+-- `text::write_decimal` meets its contract: the digits that io gives are the decimal digits, and 20 hold every u64.
+-- Assumes nothing.
 use mathlib.Core.Path.{sym, ap, _∙_}
 use native.Mathlib.Omega.{arith}
 use lib.ListN.{length}
@@ -13,7 +14,8 @@ returns c =
     let a = c .before .before .before .before .before .before .before .before .args in
     let made = c .before .before .before .before .before .decimal in
     let same = fewest-decimal (a .n) (made .result) (made .ensures .1 .0) in
-    let most = fewest-most 10 1 (a .n) 20 (made .result) (omega arith) (omega arith) (omega arith) (made .ensures .1 .0) in
+    let most =
+    fewest-most 10 1 (a .n) 20 (made .result) (omega arith) (omega arith) (omega arith) (made .ensures .1 .0) in
     let counted = sym (digits-length 10 (made .result) (a .n)) ∙ ap length same in
     (c .before .before .write .ensures ∙ ap (writeAt (a .out .now) (a .at)) (made .ensures .1 .1 ∙ same), counted, most)
 

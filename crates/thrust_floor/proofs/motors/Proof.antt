@@ -1,4 +1,5 @@
--- `thrust_floor::motors` meets its contract: the scale is the fit scale with one base for all, and the motors are those at that scale. Assumes nothing.
+-- `thrust_floor::motors` meets its contract: the scale is the fit scale with one base for all, and the motors are those
+-- at that scale. Assumes nothing.
 use borrow.Author.Needs.{needs}
 use Rattle.rules.specs.Rows.{quadRows}
 use Rattle.rules.specs.Command.{deltas}

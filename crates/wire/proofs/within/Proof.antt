@@ -1,5 +1,5 @@
--- `wire::within` meets its contract: with `count` at most `len`, it may be taken from one side of the comparison or added to
--- the other. Assumes nothing.
+-- `wire::within` meets its contract: with `count` at most `len`, it may be taken from one side of the comparison or
+-- added to the other. Assumes nothing.
 use mathlib.Core.Path.{_≡_, refl, sym, _∙_}
 use mathlib.Core.Bool.{Bool, true, false}
 use Prim.Native.Nat.{ℕ, _+_, _-_, _≤_, _<_}

@@ -31,7 +31,8 @@ unfolding bytesOf
 two-bytes x h = let high : x / 256 % 256 ≡ x / 256 = omega arith in rw high
 
 returns : tie.Need-returns
-returns c = rw (add-one, two-bytes _ (c .before .before .before .fits .x .fits)) (writeAt-sets _ _ (_ ∷ _ ∷ []) (room c))
+returns c =
+    rw (add-one, two-bytes _ (c .before .before .before .fits .x .fits)) (writeAt-sets _ _ (_ ∷ _ ∷ []) (room c))
 
 returns-2 : tie.Need-returns-2
 returns-2 c = sym (writeAt-bytesOf-short 2 _ _ _ (leb-false _ _ (sym (c .before .within .ensures) ∙ c .if1 .left)))

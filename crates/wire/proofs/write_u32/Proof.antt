@@ -1,5 +1,5 @@
--- `wire::write_u32` meets its contract. The two halves that are written one after the other are a write of the number's four
--- bytes. Assumes nothing.
+-- `wire::write_u32` meets its contract. The two halves that are written one after the other are a write of the number's
+-- four bytes. Assumes nothing.
 use mathlib.Core.Path.{sym, _∙_}
 use Prim.Native.Nat.{_+_, _≤_}
 use native.Mathlib.Omega.{arith}
@@ -21,7 +21,8 @@ returns : tie.Need-returns
 returns c =
     let second = c .before .before in
     let first = second .before .before .before .before in
-    rw (second .write-u162 .ensures, first .write-u16 .ensures) (writeAt-bytesOf-add 2 2 _ _ _ (room (first .before .before)))
+    rw (second .write-u162 .ensures, first .write-u16 .ensures)
+    (writeAt-bytesOf-add 2 2 _ _ _ (room (first .before .before)))
 
 returns-2 : tie.Need-returns-2
 returns-2 c = sym (writeAt-bytesOf-short 4 _ _ _ (leb-false _ _ (sym (c .before .within .ensures) ∙ c .if1 .left)))

@@ -1,4 +1,5 @@
--- `entries::choice::choose` meets its contract: in each arm the kind and the rotor byte are known well enough for the tests to compute. Assumes nothing.
+-- `entries::choice::choose` meets its contract: in each arm the kind and the rotor byte are known well enough for the
+-- tests to compute. Assumes nothing.
 use mathlib.Core.Path.{sym, subst}
 use Prim.Native.Nat.{ℕ}
 use native.Mathlib.Omega.{arith}
@@ -6,7 +7,7 @@ use borrow.Author.Needs.{needs}
 use borrow.Author.Tests.{lt-ltb, le-ltb}
 use Rattle.entries.specs.declared.refusal.Refusal.the-variants.{BadKind, BadRotor}
 use Rattle.entries.specs.Choice.{failedOf, caseOf, ChosenBy}
-use Rattle.entries.proofs.Answers.{case-chosen, refusal-chosen}
+use Rattle.entries.proofs.Chosen.{case-chosen, refusal-chosen}
 use Rattle.entries.proofs.Numbers.{kind-refused, rotor-refused, none-refused}
 use Rattle.entries.proofs.choice.choose.Statement.{statement}
 use Rattle.entries.proofs.choice.choose.Tie as tie

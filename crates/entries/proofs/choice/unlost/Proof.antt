@@ -1,7 +1,8 @@
--- `entries::choice::unlost` meets its contract: in each arm the kind is known, so the tests compute, and the last is never reached. Assumes nothing.
+-- `entries::choice::unlost` meets its contract: in each arm the kind is known, so the tests compute, and the last is
+-- never reached. Assumes nothing.
 use native.Mathlib.Omega.{arith}
 use Rattle.entries.specs.Choice.{caseOf}
-use Rattle.entries.proofs.Answers.{case-chosen}
+use Rattle.entries.proofs.Chosen.{case-chosen}
 use Rattle.entries.proofs.Numbers.{rotor-passed}
 use Rattle.entries.proofs.choice.unlost.Statement.{statement}
 use Rattle.entries.proofs.choice.unlost.Tie as tie

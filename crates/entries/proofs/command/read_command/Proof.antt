@@ -12,7 +12,14 @@ returns c =
     let pitch = yaw .before in
     let roll = pitch .before in
     let thrust = roll .before in
-    simp (c .with-numbers .ensures, thrust .number-in .ensures, roll .number-in2 .ensures, pitch .number-in3 .ensures, yaw .number-in4 .ensures, floor .number-in5 .ensures)
+    simp (
+      c .with-numbers .ensures,
+      thrust .number-in .ensures,
+      roll .number-in2 .ensures,
+      pitch .number-in3 .ensures,
+      yaw .number-in4 .ensures,
+      floor .number-in5 .ensures,
+    )
 
 pub read-command-spec : {M : Type 1} → statement M
 read-command-spec =

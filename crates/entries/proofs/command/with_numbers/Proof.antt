@@ -1,4 +1,5 @@
--- `entries::command::with_numbers` meets its contract: in each arm the case is known, so the definition computes. Assumes nothing.
+-- `entries::command::with_numbers` meets its contract: in each arm the case is known, so the definition computes.
+-- Assumes nothing.
 use borrow.Author.Needs.{needs}
 use Rattle.entries.specs.Entry.{commandOf}
 use Rattle.entries.proofs.command.with_numbers.Statement.{statement}

@@ -1,4 +1,5 @@
--- `entries::layout::number_in` meets its contract: an offset is a number of two bytes, so the place of the number fits a usize. Assumes nothing.
+-- `entries::layout::number_in` meets its contract: an offset is a number of two bytes, so the place of the number fits
+-- a usize. Assumes nothing.
 use borrow.Author.Needs.{needs}
 use Rattle.entries.specs.Layout.{numberIn}
 use Rattle.entries.proofs.layout.number_in.Statement.{statement}

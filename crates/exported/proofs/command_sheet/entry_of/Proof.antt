@@ -1,4 +1,5 @@
--- `exported::command_sheet::entry_of` meets its contract. It is in a file so that a wrong one is refused at its place. Assumes nothing.
+-- `exported::command_sheet::entry_of` meets its contract. It is in a file so that a wrong one is refused at its place.
+-- Assumes nothing.
 use borrow.Author.Needs.{needs}
 use Rattle.exported.proofs.command_sheet.entry_of.Statement.{statement}
 use Rattle.exported.proofs.command_sheet.entry_of.Tie as tie

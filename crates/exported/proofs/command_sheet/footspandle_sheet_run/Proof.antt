@@ -1,4 +1,5 @@
--- `exported::command_sheet::footspandle_sheet_run` meets its contract: the run, and the two numbers of its verdict. Assumes nothing.
+-- `exported::command_sheet::footspandle_sheet_run` meets its contract: the run, and the two numbers of its verdict.
+-- Assumes nothing.
 use borrow.Author.Needs.{needs}
 use Rattle.exported.proofs.command_sheet.footspandle_sheet_run.Statement.{statement}
 use Rattle.exported.proofs.command_sheet.footspandle_sheet_run.Tie as tie
@@ -6,7 +7,13 @@ use Rattle.exported.proofs.command_sheet.footspandle_sheet_run.Tie as t
 returns : tie.Need-returns
 returns c =
     let at-run = c .before .before .before .before in
-    record { verdict = at-run .run .result; told-is = rw (c .number-of .ensures, c .before .entry-of .ensures); ran = at-run .run .ensures }
+    record {
+      verdict = at-run .run .result;
+      told-is = rw (c .number-of .ensures, c .before .entry-of .ensures);
+      ran = at-run .run .ensures;
+    }
 
 pub footspandle-sheet-run-spec : {M : Type 1} → statement M
-footspandle-sheet-run-spec = tie.close (tie.spec (λ c κs. search needs) (λ c κs. search needs) (λ c κs. search needs) (λ c. search needs) returns)
+footspandle-sheet-run-spec =
+    tie.close
+    (tie.spec (λ c κs. search needs) (λ c κs. search needs) (λ c κs. search needs) (λ c. search needs) returns)

@@ -1,4 +1,5 @@
--- `exported::multi_floor::footspandle_mix_thrust_floor_hex_x` meets its contract: the mix of the wrench that was lent. Assumes nothing.
+-- `exported::multi_floor::footspandle_mix_thrust_floor_hex_x` meets its contract: the mix of the wrench that was lent.
+-- Assumes nothing.
 use borrow.Author.Needs.{needs}
 use Rattle.exported.proofs.multi_floor.footspandle_mix_thrust_floor_hex_x.Statement.{statement}
 use Rattle.exported.proofs.multi_floor.footspandle_mix_thrust_floor_hex_x.Tie as tie

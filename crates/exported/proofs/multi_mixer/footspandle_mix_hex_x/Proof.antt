@@ -1,4 +1,5 @@
--- `exported::multi_mixer::footspandle_mix_hex_x` meets its contract: the mix of the wrench that was lent. Assumes nothing.
+-- `exported::multi_mixer::footspandle_mix_hex_x` meets its contract: the mix of the wrench that was lent. Assumes
+-- nothing.
 use borrow.Author.Needs.{needs}
 use Rattle.exported.proofs.multi_mixer.footspandle_mix_hex_x.Statement.{statement}
 use Rattle.exported.proofs.multi_mixer.footspandle_mix_hex_x.Tie as tie

@@ -1,4 +1,5 @@
--- `exported::multi_mixer::number` meets its contract. It is in a file so that a wrong one is refused at its place. Assumes nothing.
+-- `exported::multi_mixer::number` meets its contract. It is in a file so that a wrong one is refused at its place.
+-- Assumes nothing.
 use borrow.Author.Needs.{needs}
 use Rattle.exported.proofs.multi_mixer.number.Statement.{statement}
 use Rattle.exported.proofs.multi_mixer.number.Tie as tie

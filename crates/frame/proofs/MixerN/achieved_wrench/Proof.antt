@@ -12,4 +12,5 @@ wrench-of-requires c κs =
     omega arith
 
 pub achieved-wrench-spec : {M : Type 1} → statement M
-achieved-wrench-spec = tie.close (tie.spec (λ c. search needs) (λ c. search needs) wrench-of-requires (λ c. search needs))
+achieved-wrench-spec =
+    tie.close (tie.spec (λ c. search needs) (λ c. search needs) wrench-of-requires (λ c. search needs))

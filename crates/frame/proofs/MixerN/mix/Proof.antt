@@ -1,4 +1,5 @@
--- `MixerN::mix` meets its contract: the treated sums of all eight rows, lowered and limited; what it promises is a law about the rule. Assumes nothing.
+-- `MixerN::mix` meets its contract: the treated sums of all eight rows, lowered and limited; what it promises is a law
+-- about the rule. Assumes nothing.
 use mathlib.Core.Path.{_≡_}
 use borrow.Author.Needs.{needs}
 use Rattle.rules.specs.Frame.{frameMotors}
@@ -14,11 +15,14 @@ returns c =
     let at-sums = c .before .before .before .before in
     let start = at-sums .before .before .before .before in
     let args = start .args in
-    let is : c .before .lower-and-limit .last .0 ≡ frameMotors (rowsIn (args .self)) (args .torque-body) (args .thrust) =
+    let is : c .before .lower-and-limit .last .0
+    ≡ frameMotors (rowsIn (args .self)) (args .torque-body) (args .thrust) =
     simp (c .before .lower-and-limit .ensures, at-sums .treated-sums .ensures) in
     record {
       is = is;
-      keeps = rw is (frame-keeps (rowsIn (args .self)) (args .torque-body) (args .thrust) (array-held 3 (args .torque-body) _ (start .good .1 .0)) (rw (start .good .1 .1 .0 .1) tt));
+      keeps =
+          rw is (frame-keeps (rowsIn (args .self)) (args .torque-body) (args .thrust)
+          (array-held 3 (args .torque-body) _ (start .good .1 .0)) (rw (start .good .1 .1 .0 .1) tt));
     }
 
 pub mix-spec : {M : Type 1} → statement M

@@ -1,4 +1,5 @@
--- `MixerN::quad_x` meets its contract by computing: the table holds the quad's rows and four rows of +0, number by number. Assumes nothing.
+-- `MixerN::quad_x` meets its contract by computing: the table holds the quad's rows and four rows of +0, number by
+-- number. Assumes nothing.
 use mathlib.Core.Path.{refl}
 use Rattle.rules.specs.Rows.{runOf, quadRows, quadXRows}
 use Rattle.frame.proofs.MixerN.quad_x.Statement.{statement}

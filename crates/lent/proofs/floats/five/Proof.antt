@@ -1,4 +1,5 @@
--- `lent::floats::five` meets its contract. It is in a file so that a wrong one is refused at its place. Assumes nothing.
+-- `lent::floats::five` meets its contract. It is in a file so that a wrong one is refused at its place. Assumes
+-- nothing.
 use mathlib.Core.Path.{refl}
 use borrow.Author.Needs.{needs}
 use Rattle.lent.proofs.floats.five.Statement.{statement}

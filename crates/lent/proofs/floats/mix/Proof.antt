@@ -1,4 +1,5 @@
--- `lent::floats::mix` meets its contract: the state that `QuadMixer::mix` gives, with the scale that was there. Assumes nothing.
+-- `lent::floats::mix` meets its contract: the state that `QuadMixer::mix` gives, with the scale that was there. Assumes
+-- nothing.
 use borrow.Author.Needs.{needs}
 use Rattle.lent.proofs.FloatsOf.{floats-of}
 use Rattle.lent.proofs.floats.mix.Statement.{statement}

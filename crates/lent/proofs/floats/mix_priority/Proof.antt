@@ -1,11 +1,13 @@
--- `lent::floats::mix_priority` meets its contract: the state that `QuadMixer::mix_priority` gives, with the scale that was there. Assumes nothing.
+-- `lent::floats::mix_priority` meets its contract: the state that `QuadMixer::mix_priority` gives, with the scale that
+-- was there. Assumes nothing.
 use borrow.Author.Needs.{needs}
 use Rattle.lent.proofs.FloatsOf.{floats-of}
 use Rattle.lent.proofs.floats.mix_priority.Statement.{statement}
 use Rattle.lent.proofs.floats.mix_priority.Tie as tie
 
 returns : tie.Need-returns
-returns c = floats-of _ (c .five .ensures) (rw (c .before .before .mixer .ensures) at (c .before .mix-priority .ensures))
+returns c =
+    floats-of _ (c .five .ensures) (rw (c .before .before .mixer .ensures) at (c .before .mix-priority .ensures))
 
 pub mix-priority-spec : {M : Type 1} → statement M
 mix-priority-spec = tie.close (tie.spec (λ c κs. search needs) (λ c κs. search needs) (λ c κs. search needs) returns)

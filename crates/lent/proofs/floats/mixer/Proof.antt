@@ -1,4 +1,5 @@
--- `lent::floats::mixer` meets its contract. It is in a file so that a wrong one is refused at its place. Assumes nothing.
+-- `lent::floats::mixer` meets its contract. It is in a file so that a wrong one is refused at its place. Assumes
+-- nothing.
 use mathlib.Core.Path.{refl}
 use borrow.Author.Needs.{needs}
 use Rattle.lent.proofs.floats.mixer.Statement.{statement}
@@ -10,4 +11,5 @@ returns c = refl
 pub mixer-spec : {M : Type 1} → statement M
 mixer-spec =
     tie.close
-    (tie.spec (λ c. search needs) (λ c. search needs) (λ c. search needs) (λ c. search needs) (λ c. search needs) returns)
+    (tie.spec (λ c. search needs) (λ c. search needs) (λ c. search needs) (λ c. search needs)
+    (λ c. search needs) returns)

@@ -10,4 +10,6 @@ returns c =
     floats-of _ (c .five .ensures) (rw (at-run .before .before .mixer .ensures) at (at-run .run .ensures))
 
 pub run-spec : {M : Type 1} → statement M
-run-spec = tie.close (tie.spec (λ c κs. search needs) (λ c κs. search needs) (λ c κs. search needs) (λ c. search needs) returns)
+run-spec =
+    tie.close
+    (tie.spec (λ c κs. search needs) (λ c κs. search needs) (λ c κs. search needs) (λ c. search needs) returns)

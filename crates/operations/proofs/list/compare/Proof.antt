@@ -1,5 +1,5 @@
--- `operations::list::compare` is safe and ends. The loop's invariant: at most as many records were passed as there are, and at most as many differ as were passed.
--- The measure is how many are left. Assumes nothing.
+-- `operations::list::compare` is safe and ends. The loop's invariant: at most as many records were passed as there are,
+-- and at most as many differ as were passed. The measure is how many are left. Assumes nothing.
 use Prim.Native.Nat.{_≤_, _-_}
 use mathlib.Core.Logic.{⊎-elim}
 use native.Mathlib.Omega.{arith}

@@ -1,4 +1,5 @@
--- `replay::floors::lent_to` is safe and ends: the outputs are the first part of the room, and there is a place after them for the scale. Assumes nothing.
+-- `replay::floors::lent_to` is safe and ends: the outputs are the first part of the room, and there is a place after
+-- them for the scale. Assumes nothing.
 use mathlib.Core.Path.{sym}
 use native.Mathlib.Omega.{arith}
 use lib.Seq.{length-take-le}

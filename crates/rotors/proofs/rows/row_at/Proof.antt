@@ -1,4 +1,5 @@
--- `rotors::rows::row_at` meets its contract: within the run's rows the four numbers that stand there, and past them a row of +0. Assumes nothing.
+-- `rotors::rows::row_at` meets its contract: within the run's rows the four numbers that stand there, and past them a
+-- row of +0. Assumes nothing.
 use mathlib.Core.Path.{sym}
 use native.Mathlib.Omega.{arith}
 use denote.Ref.{now}

@@ -1,4 +1,5 @@
--- `sheets::record::text_agrees` is safe and ends: what is printed has no more bytes than the text has room for. Assumes nothing.
+-- `sheets::record::text_agrees` is safe and ends: what is printed has no more bytes than the text has room for. Assumes
+-- nothing.
 use mathlib.Core.Path.{sym}
 use lib.Seq.{length-take-le}
 use borrow.Author.Needs.{needs}
@@ -6,7 +7,9 @@ use Rattle.sheets.proofs.record.text_agrees.Statement.{statement}
 use Rattle.sheets.proofs.record.text_agrees.Tie as tie
 
 slice-aggregate-same : tie.Need-slice-aggregate-same
-slice-aggregate-same c = let printed = c .before .text-of in sym (length-take-le (printed .result) (printed .last .1 .0) (printed .ensures .within))
+slice-aggregate-same c =
+    let printed = c .before .text-of in
+    sym (length-take-le (printed .result) (printed .last .1 .0) (printed .ensures .within))
 
 pub text-agrees-spec : {M : Type 1} → statement M
 text-agrees-spec =

@@ -1,5 +1,6 @@
--- `sheets::walk::replay` is safe and ends. The loop's invariant: a record has 72 bytes or more, so there are at most as many records as bytes passed, and at most as
--- many differences as records. The measure is what is left of the list. Assumes nothing.
+-- `sheets::walk::replay` is safe and ends. The loop's invariant: a record has 72 bytes or more, so there are at most as
+-- many records as bytes passed, and at most as many differences as records. The measure is what is left of the list.
+-- Assumes nothing.
 use Prim.Native.Nat.{_≤_, _-_, _+_}
 use mathlib.Core.Logic.{⊎-elim}
 use native.Mathlib.Omega.{arith}
@@ -9,7 +10,8 @@ use Rattle.sheets.proofs.walk.replay.Statement.{statement}
 use Rattle.sheets.proofs.walk.replay.Tie as tie
 
 abbrev Inv-loop : tie.InvT-loop
-Inv-loop list replayed₀ differ₀ at₀ replayed differ at = (differ ≤ replayed) × (replayed + 4 ≤ at) × (at ≤ length list + 4)
+Inv-loop list replayed₀ differ₀ at₀ replayed differ at =
+    (differ ≤ replayed) × (replayed + 4 ≤ at) × (at ≤ length list + 4)
 
 abbrev μ-loop : tie.MeasureT-loop
 μ-loop list replayed₀ differ₀ at₀ replayed differ at = length list - at

@@ -1,5 +1,5 @@
--- The kit's `add`, `sub`, `mul` and `div` meet every row of specs/Operations.antt: what IEEE 754-2019 asks of the four operations, of every two operands that the format
--- holds. In either format. Assumes nothing.
+-- The kit's `add`, `sub`, `mul` and `div` meet every row of specs/Operations.antt: what IEEE 754-2019 asks of the four
+-- operations, of every two operands that the format holds. In either format. Assumes nothing.
 use mathlib.Core.Path.{_≡_, refl, _∙_}
 use mathlib.Core.Bool.{Bool, true, false, _&&_, _||_, cond}
 use Prim.Native.Nat.{ℕ, _+_, _-_, _*_, _<_}
@@ -23,12 +23,14 @@ use Rattle.binary32.proofs.Exact.{add-delivered, mul-delivered, div-del
 -- ---- signs
 
 -- two sizes of different signs that cancel are one, so the kit finds neither the smaller
-sum-negative : (f : Format) (s t : Bool) (c : ℕ) {a b x y : ℕ} → Alike a b x y → cond s 0 x + cond t 0 y ≡ cond s x 0 + cond t y 0
+sum-negative : (f : Format) (s t : Bool) (c : ℕ) {a b x y : ℕ} → Alike a b x y
+    → cond s 0 x + cond t 0 y ≡ cond s x 0 + cond t y 0
     → negative (sum f s a t b c) ≡ (s && t)
 unfolding sum
 sum-negative f false false c {a} {b} k e = round-negative f false (a + b) c
 sum-negative f true true c {a} {b} k e = round-negative f true (a + b) c
-sum-negative f false true c {a} {b} {x} {y} k e = rw (k .less ∙ le-ltb x y (omega arith)) (round-negative f false (a - b) c)
+sum-negative f false true c {a} {b} {x} {y} k e =
+    rw (k .less ∙ le-ltb x y (omega arith)) (round-negative f false (a - b) c)
 sum-negative f true false c {a} {b} {x} {y} k e =
     rw (k .less ∙ le-ltb x y (omega arith), k .more ∙ le-ltb y x (omega arith)) (round-negative f false (a - b) c)
 
@@ -39,12 +41,14 @@ add-negative {f} =
     by-finite₂ (λ x y. over f x + over f y ≡ under f x + under f y → negative (add f x y) ≡ (negative x && negative y))
     (λ s m e t n d p q. sum-negative f s t (down e * down d) (sizes-alike f s m e t n d p q))
 
-div-negative : {f : Format} {x y : Float} → Finite f x → Finite f y → 0 < magnitude f y → negative (div f x y) ≡ unlike (negative x) (negative y)
+div-negative : {f : Format} {x y : Float} → Finite f x → Finite f y → 0 < magnitude f y
+    → negative (div f x y) ≡ unlike (negative x) (negative y)
 unfolding negative
 div-negative {f} =
     by-finite₂ (λ x y. 0 < magnitude f y → negative (div f x y) ≡ unlike (negative x) (negative y))
     (λ s m e t n d p q h.
-    rw (div-finite f s m e t n d (significand f t n d h)) (round-negative f (unlike s t) (m * up e * down d) (n * up d * down e)))
+    rw (div-finite f s m e t n d (significand f t n d h))
+    (round-negative f (unlike s t) (m * up e * down d) (n * up d * down e)))
 
 -- an integer that is 0 has a pair of equals
 balanced : {z : ℤ} {p n : ℕ} → Difference z p n → z ≡ pos 0 → p ≡ n
@@ -81,7 +85,9 @@ module _ {f : Format} {x y : Float} (hx : T (fits f x)) (hy : T (fits f y)) wher
   unfolding add
   addition = record {
     rounded = λ p q. add-delivered (is-finite hx p) (is-finite hy q);
-    zero = λ p q e. add-negative (is-finite hx p) (is-finite hy q) (balanced (sum-of (whole-difference f x) (whole-difference f y)) e);
+    zero =
+        λ p q e. add-negative (is-finite hx p) (is-finite hy q)
+        (balanced (sum-of (whole-difference f x) (whole-difference f y)) e);
     infinite-first = λ s e q. rw e (by-finite (λ y. add f (inf s) y ≡ inf s) (λ t n d h. refl) (is-finite hy q));
     infinite-second = λ s p e. rw e (by-finite (λ x. add f x (inf s) ≡ inf s) (λ t m d h. refl) (is-finite hx p));
     infinite-both = λ s d e. rw (d, e) (elim s [ true ↦ refl | false ↦ refl ]);
@@ -106,10 +112,15 @@ module _ {f : Format} {x y : Float} (hx : T (fits f x)) (hy : T (fits f y)) wher
   division = record {
     rounded = λ p q. div-delivered (is-finite hx p) (is-finite hy q);
     sign = λ p q. div-negative (is-finite hx p) (is-finite hy q);
-    infinite-first = λ s e q. rw e (by-finite (λ y. div f (inf s) y ≡ inf (unlike s (negative y))) (λ t n d h. refl) (is-finite hy q));
-    infinite-second = λ s p e. rw e (by-finite (λ x. div f x (inf s) ≡ zeroOf (unlike (negative x) s)) (λ t m d h. refl) (is-finite hx p));
+    infinite-first =
+        λ s e q.
+        rw e (by-finite (λ y. div f (inf s) y ≡ inf (unlike s (negative y))) (λ t n d h. refl) (is-finite hy q));
+    infinite-second =
+        λ s p e.
+        rw e (by-finite (λ x. div f x (inf s) ≡ zeroOf (unlike (negative x) s)) (λ t m d h. refl) (is-finite hx p));
     by-zero = λ s p h e.
-        rw e (by-finite (λ x. 0 < magnitude f x → div f x (zeroOf s) ≡ inf (unlike (negative x) s)) (λ t m d q g. rw (not-zero f t m d g)) (is-finite hx p) h);
+        rw e (by-finite (λ x. 0 < magnitude f x → div f x (zeroOf s) ≡ inf (unlike (negative x) s))
+        (λ t m d q g. rw (not-zero f t m d g)) (is-finite hx p) h);
     invalid-zeros = λ s t d e. rw (d, e);
     invalid-infinities = λ s t d e. rw (d, e);
     not-a-number = not-a-number (div f) (λ y. refl) (λ s. refl) (λ s m e. refl) x y;

@@ -8,12 +8,13 @@ use Rattle.refusals.specs.Numbers.{accepted}
 use Rattle.entries.specs.declared.choice.Case.{Case}
 use Rattle.entries.specs.declared.choice.Choice.the-variants.{Is, Refused}
 use Rattle.entries.specs.declared.refusal.Refusal.{Refusal}
-use Rattle.entries.specs.declared.refusal.Refusal.the-variants.{TooShort, BadVersion, TooMany, BadLength, BadKind, BadRotor, BadOffset, BadEnd, ShortOutput}
-use Rattle.entries.specs.Refusal.{numberOf}
+use Rattle.entries.specs.declared.refusal.Refusal.the-variants.{TooShort, BadVersion, TooMany, BadLength, BadKind}
+use Rattle.entries.specs.declared.refusal.Refusal.the-variants.{BadRotor, BadOffset, BadEnd, ShortOutput}
+use Rattle.entries.specs.Refusal.{refusalNumber}
 use Rattle.entries.specs.Choice.{Chosen}
 
 -- no refusal has number 0
-pub never-accepted : (r : Refusal) → eqb (numberOf r) accepted ≡ false
+pub never-accepted : (r : Refusal) → eqb (refusalNumber r) accepted ≡ false
 never-accepted TooShort = refl
 never-accepted BadVersion = refl
 never-accepted TooMany = refl
@@ -29,7 +30,7 @@ never-accepted ShortOutput = refl
 pub case-chosen : {number : ℕ} {c d : Case} → number ≡ accepted → d ≡ c → Chosen number c (Is d)
 case-chosen n e = record { told = rw n; cases = rw (n, e) }
 
-pub refusal-chosen : {number : ℕ} {c : Case} (r : Refusal) → number ≡ numberOf r → Chosen number c (Refused r)
+pub refusal-chosen : {number : ℕ} {c : Case} (r : Refusal) → number ≡ refusalNumber r → Chosen number c (Refused r)
 refusal-chosen r n = record { told = sym n; cases = rw (n, never-accepted r) }
 
 -- ---- from the answer to the number
@@ -43,5 +44,5 @@ chosen-case {number} {c} {d} h = (sym (h .told), same)
     same : d ≡ c
     same = cc
 
-pub chosen-refusal : {number : ℕ} {c : Case} {r : Refusal} → Chosen number c (Refused r) → number ≡ numberOf r
+pub chosen-refusal : {number : ℕ} {c : Case} {r : Refusal} → Chosen number c (Refused r) → number ≡ refusalNumber r
 chosen-refusal h = sym (h .told)

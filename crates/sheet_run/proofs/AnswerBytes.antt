@@ -32,17 +32,20 @@ unfolding floatBytes bytesOf toBits
 nan-written = refl
 
 -- one float more
-floats-more : (xs : List Float) (x : Float) → floatBytes (xs ++ (x ∷ [])) ≡ floatBytes xs ++ bytesOf 4 (toBits binary32 x)
+floats-more : (xs : List Float) (x : Float)
+    → floatBytes (xs ++ (x ∷ [])) ≡ floatBytes xs ++ bytesOf 4 (toBits binary32 x)
 unfolding floatBytes
 floats-more [] x = one-float x
 floats-more (y ∷ xs) x = rw (floats-more xs x, append-assoc)
 
 -- a float written after floats
 pub float-written : (out : List ℕ) (xs : List Float) (x : Float) → 4 * length xs + 4 ≤ length out
-    → writeAt (writeAt out 0 (floatBytes xs)) (4 * length xs) (bytesOf 4 (toBits binary32 x)) ≡ writeAt out 0 (floatBytes (xs ++ (x ∷ [])))
+    → writeAt (writeAt out 0 (floatBytes xs)) (4 * length xs) (bytesOf 4 (toBits binary32 x))
+    ≡ writeAt out 0 (floatBytes (xs ++ (x ∷ [])))
 float-written out xs x h =
     let size : 0 + length (floatBytes xs) ≡ 4 * length xs = rw (zero-add, floats-length) in
-    let room : 0 + length (floatBytes xs) + length (bytesOf 4 (toBits binary32 x)) ≤ length out = rw (bytesOf-length, size) h in
+    let room : 0 + length (floatBytes xs) + length (bytesOf 4 (toBits binary32 x)) ≤ length out =
+    rw (bytesOf-length, size) h in
     rw (← size, floats-more) (writeAt-append out 0 (floatBytes xs) (bytesOf 4 (toBits binary32 x)) room)
 
 -- ---- an answer
@@ -66,7 +69,8 @@ answers-length q [] = refl
 answers-length q (c ∷ cs) = rw (length-append, answer-length, answers-length (called q c) cs) (omega arith)
 
 -- four motors and a scale, written one after another
-pub five-written : (out : List ℕ) {o1 o2 o3 o4 o5 : List ℕ} (m : List Float) (scale : Float) → length m ≡ 4 → 20 ≤ length out
+pub five-written : (out : List ℕ) {o1 o2 o3 o4 o5 : List ℕ} (m : List Float) (scale : Float) → length m ≡ 4
+    → 20 ≤ length out
     → o1 ≡ writeAt out 0 (bytesOf 4 (toBits binary32 (getD m 0 nan)))
     → o2 ≡ writeAt o1 4 (bytesOf 4 (toBits binary32 (getD m 1 nan)))
     → o3 ≡ writeAt o2 8 (bytesOf 4 (toBits binary32 (getD m 2 nan)))
@@ -78,5 +82,16 @@ five-written out m scale count room e1 e2 e3 e4 e5 =
     let b = getD m 1 nan in
     let c = getD m 2 nan in
     let d = getD m 3 nan in
-    rw (e5, e4, e3, e2, e1, ← one-float a, float-written out (a ∷ []) b (omega arith), float-written out (a ∷ b ∷ []) c (omega arith), float-written out (a ∷ b ∷ c ∷ []) d (omega arith), float-written out (a ∷ b ∷ c ∷ d ∷ []) scale (omega arith))
+    rw (
+      e5,
+      e4,
+      e3,
+      e2,
+      e1,
+      ← one-float a,
+      float-written out (a ∷ []) b (omega arith),
+      float-written out (a ∷ b ∷ []) c (omega arith),
+      float-written out (a ∷ b ∷ c ∷ []) d (omega arith),
+      float-written out (a ∷ b ∷ c ∷ d ∷ []) scale (omega arith),
+    )
     (ap (λ (l : List Float). writeAt out 0 (floatBytes (l ++ (scale ∷ [])))) (sym (four m count)))
