@@ -1,6 +1,6 @@
 // Our answers, kind by kind. One kind more is an arm of `answer` here, in mixes.rt if it is about the quad, in
-// frames.rt if it is about any frame, or in floors.rt if it is about thrust-floor by rows, and a line in
-// compare/driver/src/list.rs, list_quad.rs, list_frame.rs or list_floor.rs.
+// frames.rt if it is about any frame, or in floors.rt if it is about thrust-floor by rows, and a line in list.rs of the
+// room of compare/rooms that is about it.
 ghost use Prim.Native.Nat.{_+_, _≤_};
 ghost use lib.ListN.{length};
 use crate::mixes;

@@ -1,50 +1,42 @@
-//! Compares the two crates of bindings/rust with the Rust that they stand in the place of, function by
-//! function, by bits, a NaN matching any NaN; the module `thrust_floor` with the Rust's quad; and the
-//! module `sheet` with the model of compare/driver. bindings/rust/test builds and starts it.
+//! Compares the two crates of bindings/rust with the Rust that they stand in the place of, function
+//! by function, by bits, a NaN matching any NaN; the module `thrust_floor` with the Rust's quad;
+//! and the module `sheet` with the model of compare/rooms. bindings/rust/test builds and starts it.
 //!
 //!   --wrong   turns a bit of our answers now and then: each function has to be noticed
 //!
 //! Exit status 0: no answer differs; with --wrong: each wrong function was noticed.
 //!
-//! The inputs, the comparing loop and the model of the sheet are those of compare/driver.
+//! What is compared stands in a file for each group of functions: a new one is a new file, and a
+//! line here. The comparing loop is that of compare/comparing, and the inputs and the model of the
+//! sheet are those of compare/rooms.
 
-#![allow(dead_code)] // compare/driver has more inputs than are used here
-
-#[path = "../../../../compare/driver/src/chosen_sheets.rs"]
-mod chosen_sheets;
-#[path = "../../../../compare/driver/src/commands.rs"]
-mod commands;
-#[path = "../../../../compare/driver/src/compare.rs"]
-mod compare;
-#[path = "../../../../compare/driver/src/damaged.rs"]
-mod damaged;
-#[path = "../../../../compare/driver/src/frames.rs"]
-mod frames;
-#[path = "../../../../compare/driver/src/inputs.rs"]
-mod inputs;
-#[path = "../../../../compare/driver/src/quad_calls.rs"]
-mod quad_calls;
-#[path = "../../../../compare/driver/src/rows.rs"]
-mod rows;
-#[path = "../../../../compare/driver/src/sheet.rs"]
-mod sheet;
-#[path = "../../../../compare/driver/src/sheet_table.rs"]
-mod sheet_table;
-#[path = "../../../../compare/driver/src/sheets.rs"]
-mod sheets;
-#[path = "../../../../compare/driver/src/special.rs"]
-mod special;
-
-mod answers;
-mod rust;
-mod sheet_rows;
+mod compared;
 mod sides;
-mod table;
-mod thrust_floor_rows;
 
 use std::process::ExitCode;
 
-use rows::{compare_all, notice_all};
+use comparing::row::Row;
+use comparing::table::{Table, Total, Wrong, ANSWERS};
+
+/// The files of what is compared, and the rows of all of them.
+macro_rules! files {
+    ($($file:ident,)*) => {
+        $(mod $file;)*
+
+        fn rows(wrong: bool) -> Vec<Row> {
+            [$($file::rows(wrong)),*].into_iter().flatten().collect()
+        }
+    };
+}
+
+// The order is that in which they are printed.
+files! {
+    quad,
+    mixer_n,
+    mixer,
+    thrust_floor,
+    sheet,
+}
 
 fn main() -> ExitCode {
     let mut wrong = false;
@@ -57,17 +49,11 @@ fn main() -> ExitCode {
             }
         }
     }
-    let mut rows = table::table(wrong);
-    rows.extend(thrust_floor_rows::thrust_floor_rows(wrong));
-    rows.extend(sheet_rows::sheet_rows(wrong));
+    let rows = rows(wrong);
     let good = if wrong {
-        let (functions, noticed) = notice_all(&rows, false);
-        println!("{functions} wrong functions, {noticed} noticed");
-        functions == noticed
+        Wrong::from(rows).notice(false).show(ANSWERS)
     } else {
-        let (compared, differ) = compare_all(&rows, false);
-        println!("{compared} answers compared, {differ} differ");
-        differ == 0
+        Table::from(rows).compare(false).show(ANSWERS)
     };
     if good {
         ExitCode::SUCCESS
