@@ -1,6 +1,6 @@
 -- The parameters of a function that are plain values and that it only passes on, any number of them, in a walk of its
 -- code: their locals are made, take the arguments, are read by a call, and are given back. In a context they are one
--- entry, so that no position depends on how many there are.
+-- item, so that no position depends on how many there are.
 -- Assumes nothing.
 use mathlib.Core.Path.{_≡_, refl, sym, subst, ap}
 use Prim.Native.Nat.{ℕ, zero, suc}
@@ -87,7 +87,7 @@ module _ {M : Type 1} (𝓤 : URA M) (H : Heap 𝓤) where
   beyond [] bs E i = refl
   beyond (τ ∷ τs) bs E i = beyond τs (bs .1) E i
 
--- an entry that has within it what another has
+-- an item that has within it what another has
 abbrev Within : {M : Type 1} {𝓤 : URA M} {H : Heap 𝓤} {A : Atoms 𝓤} → Given 𝓤 H A → Item 𝓤 → Item 𝓤 → Type 2
 Within {𝓤 = 𝓤} W i j =
     (τ : Ty) (b : ℕ) (v : Val) (back : Val → Item 𝓤) → Part (Go {0}) W i fullShare τ b zero v back

@@ -4,7 +4,7 @@
 --                            is opened and the state read, and a state is written and the borrow shut
 --     walks                  the whole function, whatever plain values it takes beside the state: from what the mix by
 --                            value meets
--- `Lending` takes `walks` to the contracts. In a script a number is the position of an entry in the context.
+-- `Lending` takes `walks` to the contracts. In a script a number is the position of an item in the context.
 -- Assumes nothing.
 use mathlib.Core.Path.{_≡_, refl, subst, ap}
 use Prim.Native.Nat.{ℕ, zero, suc}
