@@ -1,6 +1,6 @@
 -- Each exported function's contract determines what it answers and all that it writes: two results that satisfy it are
--- one, by bits. Those of the quad are the contracts of `lent::floats`, over what is lent, and are determined there.
--- Assumes nothing.
+-- one, by bits. A contract over a lent state is that of the function by value, said of the state that stands there, and
+-- is determined as that one is. Assumes nothing.
 use mathlib.Core.Path.{_≡_, sym, ap, _∙_}
 use mathlib.Core.List.{List}
 use Prim.Native.Nat.{ℕ}
@@ -11,6 +11,10 @@ use Rattle.refusals.specs.Told.{Told}
 use Rattle.rules.specs.Rows.{Row, quadRows, quadXRows, runOf, rowsOf, hexRows, octoRows}
 use Rattle.rules.specs.Torque.{torqueOf, achieved}
 use Rattle.general.proofs.Determined.{Determined, equal-determined}
+use Rattle.quad.specs.declared.QuadMixer.{QuadMixer}
+use Rattle.quad.specs.Mixes.{PlainGives, ThrustFloorGives, PriorityGives, AirmodeGives, RotorOutGives}
+use Rattle.quad.specs.State.{fresh}
+use Rattle.quad.proofs.Determined as quad-determined
 use Rattle.frame.specs.declared.MixerN.{MixerN}
 use Rattle.frame.specs.Mixer.{made, FrameMixed}
 use Rattle.frame.proofs.Determined as frame-determined
@@ -21,7 +25,7 @@ use Rattle.multi_thrust_floor.specs.Floored.{floorNumber, Floored}
 use Rattle.multi_thrust_floor.proofs.Determined as floor-determined
 use Rattle.sheet.specs.Table.{judged, toldBy}
 use Rattle.bodies.specs.Body.{handedBack, handedAt}
-use Rattle.lent.proofs.Determined.{run-floats-determined}
+use Rattle.sheet_run.proofs.Determined.{run-determined}
 use Rattle.exported.specs.Passed.{passed, wrench, told, Numbered, stored, FlooredAs, RanAs}
 
 -- two numbers that are told alike are the same
@@ -29,6 +33,32 @@ same-told : (n m i j : ℕ) → told n i ≡ told m j → (n ≡ m) × (i ≡ j)
 same-told n m i j e = (ap (λ (t : Told). t .number) e, ap (λ (t : Told). t .ofEntry) e)
 
 -- ---- the quad
+
+module _ (torque : List Float) (thrust floor : Float) (failed : ℕ) (before : QuadMixer) where
+  pub quad-new-determined : Determined (λ after. after ≡ fresh)
+  quad-new-determined = equal-determined
+
+  pub quad-last-motors-determined : Determined (λ motors. motors ≡ before .«last_motors»)
+  quad-last-motors-determined = equal-determined
+
+  pub quad-last-torque-scale-determined : Determined (λ r. r ≡ before .«last_torque_scale»)
+  quad-last-torque-scale-determined = equal-determined
+
+  pub quad-mix-determined : Determined (PlainGives before torque thrust)
+  quad-mix-determined = quad-determined.mix-determined torque torque thrust floor failed before
+
+  pub quad-mix-thrust-floor-determined : Determined (ThrustFloorGives before torque thrust floor)
+  quad-mix-thrust-floor-determined =
+      quad-determined.mix-thrust-floor-determined torque torque thrust floor failed before
+
+  pub quad-mix-priority-determined : Determined (PriorityGives before torque thrust floor)
+  quad-mix-priority-determined = quad-determined.mix-priority-determined torque torque thrust floor failed before
+
+  pub quad-mix-airmode-determined : Determined (AirmodeGives before torque thrust floor)
+  quad-mix-airmode-determined = quad-determined.mix-airmode-determined torque torque thrust floor failed before
+
+  pub quad-mix-rotor-out-determined : Determined (RotorOutGives before failed torque thrust floor)
+  quad-mix-rotor-out-determined = quad-determined.mix-rotor-out-determined torque torque thrust floor failed before
 
 pub motors-to-torque-signs-determined : (motors : List Float) → Determined (λ sums. sums ≡ torqueOf quadRows motors)
 motors-to-torque-signs-determined motors = equal-determined
@@ -122,13 +152,13 @@ module _ (s : List ℕ) (n m i j : ℕ) where
       → (n ≡ m) × (i ≡ j)
   sheet-body-determined e h k = (equal-determined n m (h .0) (k .0), equal-determined i j (h .1) (k .1))
 
-  -- and the state's five floats and the output
-  pub sheet-run-determined : (before : List Float) (out : List ℕ) (after other : List Float) (written put : List ℕ)
+  -- and the state and the output
+  pub sheet-run-determined : (before : QuadMixer) (out : List ℕ) (after other : QuadMixer) (written put : List ℕ)
       → RanAs s before out n i after written
       → RanAs s before out m j other put
       → (n ≡ m) × (i ≡ j) × (after ≡ other) × (written ≡ put)
   sheet-run-determined before out after other written put h k =
       let one =
-      run-floats-determined s before out (h .verdict) (k .verdict) after other written put (h .ran) (k .ran) in
+      run-determined s before out (h .verdict) (k .verdict) after other written put (h .ran) (k .ran) in
       let numbers = same-told n m i j (h .told-is ∙ ap toldBy (one .0) ∙ sym (k .told-is)) in
       (numbers .0, numbers .1, one .1, one .2)

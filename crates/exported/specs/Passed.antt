@@ -12,10 +12,10 @@ use Rattle.multi.specs.Wrench.{mixNumber, RowsMixed}
 use Rattle.multi_thrust_floor.specs.declared.FloorAnswer.{FloorAnswer}
 use Rattle.multi_thrust_floor.specs.declared.FloorAnswer.the-variants.{Mixed as mixed, Refused as refused}
 use Rattle.multi_thrust_floor.specs.Floored.{floorNumber, RowsFloored}
+use Rattle.quad.specs.declared.QuadMixer.{QuadMixer}
 use Rattle.sheet.specs.declared.Verdict.{Verdict}
 use Rattle.sheet.specs.Table.{toldBy}
 use Rattle.sheet_run.specs.Run.{Ran}
-use Rattle.lent.specs.Five.{mixer, FloatsOf}
 
 -- the mixer of a matrix and a count
 abbrev pub passed : List Float → ℕ → MixerN
@@ -50,10 +50,9 @@ pub record FlooredAs (run : List Float) (w : Wrench) (floor : Float) (before : L
   pub scale-is : scale ≡ stored answer held
   pub mixed : RowsFloored run w floor before answer after
 
--- a run of a sheet from the state that five floats are, whose verdict passes as its two numbers and whose state as its
--- five floats
-pub record RanAs (s : List ℕ) (before : List Float) (out : List ℕ)
-    (number i : ℕ) (after : List Float) (written : List ℕ) : Type 0 where
+-- `sheet_run::run`, whose verdict passes as its two numbers
+pub record RanAs (s : List ℕ) (before : QuadMixer) (out : List ℕ)
+    (number i : ℕ) (after : QuadMixer) (written : List ℕ) : Type 0 where
   pub verdict : Verdict
   pub told-is : told number i ≡ toldBy verdict
-  pub ran : FloatsOf (λ q. Ran s (mixer before) out verdict q written) after
+  pub ran : Ran s before out verdict after written

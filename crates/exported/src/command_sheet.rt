@@ -1,7 +1,7 @@
 // The command sheet, exported to C. What a sheet is told passes as document 01's number, 0 where it is accepted, and
 // the entry number, which is stored.
 use entries::refusal::number;
-use lent::floats;
+use quad::QuadMixer;
 use sheet::Verdict;
 ghost use mathlib.Core.Path.{_≡_};
 ghost use lib.ListN.{length};
@@ -50,10 +50,34 @@ pub extern "C" fn footspandle_sheet_body(sheet: &[u8], i: usize, at: &mut usize)
     place.size
 }
 
+// What a run answers, as C is told it, and the state afterwards.
+struct RunResult {
+    number: u32,
+    state: QuadMixer,
+}
+
+// The run by value, whose verdict passes as its two numbers.
+fn run_from(sheet: &[u8], before: QuadMixer, out: &mut [u8], entry_number: &mut u32) -> RunResult
+    ensures { λ r. ⌜
+        RanAs (now (sheet .entry)) before (now (out .entry))
+        (r .number) (now («entry_number» .exit)) (r .state) (now (out .exit))
+        ⌝ }
+{
+    let outcome = sheet_run::run(sheet, before, out);
+    let verdict = outcome.verdict;
+    let state = outcome.state;
+    *entry_number = entry_of(verdict);
+    RunResult {
+        number: number_of(verdict),
+        state,
+    }
+}
+
+// A refused run writes nothing to the state.
 #[no_mangle]
 pub extern "C" fn footspandle_sheet_run(
     sheet: &[u8],
-    state: &mut [f32; 5],
+    state: &mut QuadMixer,
     out: &mut [u8],
     entry_number: &mut u32,
 ) -> u32
@@ -62,7 +86,11 @@ pub extern "C" fn footspandle_sheet_run(
         r (now («entry_number» .exit)) (now (state .exit)) (now (out .exit))
         ⌝ }
 {
-    let verdict = floats::run(sheet, state, out);
-    *entry_number = entry_of(verdict);
-    number_of(verdict)
+    let before = *state;
+    let ran = run_from(sheet, before, out, entry_number);
+    if ran.number != 0 {
+        return ran.number;
+    }
+    *state = ran.state;
+    ran.number
 }

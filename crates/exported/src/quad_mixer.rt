@@ -1,108 +1,168 @@
-// The quad, exported to C. A state is lent as its five floats, the four motors and then the recorded scale; what a mix
-// answers is what stands in its motors afterwards.
-use lent::floats;
+// The quad, exported to C. A state is lent: a mix updates it where it stands, and what it answers is what stands in its
+// motors afterwards.
+//
+// Follows relay-mix-quad's `&mut self` methods (Apache-2.0, see NOTICE); changed: written in Rattle with contracts;
+// each is a thin function over the mix by value, exported to C, and returns nothing.
+//
+// A contract here is that of the function by value, promises and all, said of the state that stands there.
 ghost use mathlib.Core.Path.{_≡_};
 ghost use Rattle.rules.specs.Rows.{quadRows};
 ghost use Rattle.rules.specs.Torque.{torqueOf};
 ghost use Rattle.quad.specs.Mixes.{PlainGives, ThrustFloorGives, PriorityGives, AirmodeGives, RotorOutGives};
 ghost use Rattle.quad.specs.State.{fresh};
-ghost use Rattle.lent.specs.Five.{motorsIn, scaleIn, mixer, five, FloatsOf};
+use quad::QuadMixer;
 
-#[no_mangle]
-pub extern "C" fn footspandle_quad_new(state: &mut [f32; 5])
-    ensures { λ _. ⌜ now (state .exit) ≡ five fresh ⌝ }
-{
-    floats::fresh(state);
-}
+// ---- the mixes by value, of a torque that is lent
 
-#[no_mangle]
-pub extern "C" fn footspandle_quad_last_motors(state: &[f32; 5], motors: &mut [f32; 4])
-    ensures { λ _. ⌜ now (motors .exit) ≡ motorsIn (now (state .entry)) ⌝ }
-{
-    *motors = floats::last_motors(state);
-}
-
-#[no_mangle]
-pub extern "C" fn footspandle_quad_last_torque_scale(state: &[f32; 5]) -> f32
-    ensures { λ r. ⌜ r ≡ scaleIn (now (state .entry)) ⌝ }
-{
-    floats::last_torque_scale(state)
-}
-
-#[no_mangle]
-pub extern "C" fn footspandle_quad_mix(state: &mut [f32; 5], torque_body: &[f32; 3], thrust: f32)
-    ensures { λ _. ⌜
-        FloatsOf (PlainGives (mixer (now (state .entry))) (now («torque_body» .entry)) thrust) (now (state .exit))
-        ⌝ }
+fn after_plain(before: QuadMixer, torque_body: &[f32; 3], thrust: f32) -> QuadMixer
+    ensures { λ after. ⌜ PlainGives before (now («torque_body» .entry)) thrust after ⌝ }
 {
     let torque = *torque_body;
-    floats::mix(state, torque, thrust);
+    before.mix(torque, thrust)
+}
+
+fn after_thrust_floor(
+    before: QuadMixer,
+    torque_body: &[f32; 3],
+    thrust: f32,
+    floor: f32,
+) -> QuadMixer
+    ensures { λ after. ⌜ ThrustFloorGives before (now («torque_body» .entry)) thrust floor after ⌝ }
+{
+    let torque = *torque_body;
+    before.mix_thrust_floor(torque, thrust, floor)
+}
+
+fn after_priority(before: QuadMixer, torque_body: &[f32; 3], thrust: f32, floor: f32) -> QuadMixer
+    ensures { λ after. ⌜ PriorityGives before (now («torque_body» .entry)) thrust floor after ⌝ }
+{
+    let torque = *torque_body;
+    before.mix_priority(torque, thrust, floor)
+}
+
+fn after_airmode(before: QuadMixer, torque_body: &[f32; 3], thrust: f32, idle: f32) -> QuadMixer
+    ensures { λ after. ⌜ AirmodeGives before (now («torque_body» .entry)) thrust idle after ⌝ }
+{
+    let torque = *torque_body;
+    before.mix_airmode(torque, thrust, idle)
+}
+
+fn after_rotor_out(
+    before: QuadMixer,
+    failed: usize,
+    torque_body: &[f32; 3],
+    thrust: f32,
+    floor: f32,
+) -> QuadMixer
+    ensures { λ after. ⌜ RotorOutGives before failed (now («torque_body» .entry)) thrust floor after ⌝ }
+{
+    let torque = *torque_body;
+    before.mix_rotor_out(failed, torque, thrust, floor)
+}
+
+// ---- the state made, and read
+
+// What stood there is not read.
+#[no_mangle]
+pub extern "C" fn footspandle_quad_new(state: &mut QuadMixer)
+    ensures { λ _. ⌜ now (state .exit) ≡ fresh ⌝ }
+{
+    let new = QuadMixer::new();
+    *state = new;
+}
+
+#[no_mangle]
+pub extern "C" fn footspandle_quad_last_motors(state: &QuadMixer, motors: &mut [f32; 4])
+    ensures { λ _. ⌜ now (motors .exit) ≡ now (state .entry) .«last_motors» ⌝ }
+{
+    let q = *state;
+    let last = q.last_motors();
+    *motors = last;
+}
+
+#[no_mangle]
+pub extern "C" fn footspandle_quad_last_torque_scale(state: &QuadMixer) -> f32
+    ensures { λ r. ⌜ r ≡ now (state .entry) .«last_torque_scale» ⌝ }
+{
+    let q = *state;
+    q.last_torque_scale()
+}
+
+// ---- the mixes
+
+#[no_mangle]
+pub extern "C" fn footspandle_quad_mix(state: &mut QuadMixer, torque_body: &[f32; 3], thrust: f32)
+    ensures { λ _. ⌜ PlainGives (now (state .entry)) (now («torque_body» .entry)) thrust (now (state .exit)) ⌝ }
+{
+    let before = *state;
+    let after = after_plain(before, torque_body, thrust);
+    *state = after;
 }
 
 #[no_mangle]
 pub extern "C" fn footspandle_quad_mix_thrust_floor(
-    state: &mut [f32; 5],
+    state: &mut QuadMixer,
     torque_body: &[f32; 3],
     thrust: f32,
     floor: f32,
 )
     ensures { λ _. ⌜
-        FloatsOf (ThrustFloorGives (mixer (now (state .entry))) (now («torque_body» .entry)) thrust floor)
-        (now (state .exit))
+        ThrustFloorGives (now (state .entry)) (now («torque_body» .entry)) thrust floor (now (state .exit))
         ⌝ }
 {
-    let torque = *torque_body;
-    floats::mix_thrust_floor(state, torque, thrust, floor);
+    let before = *state;
+    let after = after_thrust_floor(before, torque_body, thrust, floor);
+    *state = after;
 }
 
 #[no_mangle]
 pub extern "C" fn footspandle_quad_mix_priority(
-    state: &mut [f32; 5],
+    state: &mut QuadMixer,
     torque_body: &[f32; 3],
     thrust: f32,
     floor: f32,
 )
     ensures { λ _. ⌜
-        FloatsOf (PriorityGives (mixer (now (state .entry))) (now («torque_body» .entry)) thrust floor)
-        (now (state .exit))
+        PriorityGives (now (state .entry)) (now («torque_body» .entry)) thrust floor (now (state .exit))
         ⌝ }
 {
-    let torque = *torque_body;
-    floats::mix_priority(state, torque, thrust, floor);
+    let before = *state;
+    let after = after_priority(before, torque_body, thrust, floor);
+    *state = after;
 }
 
 #[no_mangle]
 pub extern "C" fn footspandle_quad_mix_airmode(
-    state: &mut [f32; 5],
+    state: &mut QuadMixer,
     torque_body: &[f32; 3],
     thrust: f32,
     idle: f32,
 )
-    ensures { λ _. ⌜
-        FloatsOf (AirmodeGives (mixer (now (state .entry))) (now («torque_body» .entry)) thrust idle)
-        (now (state .exit))
-        ⌝ }
+    ensures { λ _. ⌜ AirmodeGives (now (state .entry)) (now («torque_body» .entry)) thrust idle (now (state .exit)) ⌝ }
 {
-    let torque = *torque_body;
-    floats::mix_airmode(state, torque, thrust, idle);
+    let before = *state;
+    let after = after_airmode(before, torque_body, thrust, idle);
+    *state = after;
 }
 
 #[no_mangle]
 pub extern "C" fn footspandle_quad_mix_rotor_out(
-    state: &mut [f32; 5],
+    state: &mut QuadMixer,
     failed: usize,
     torque_body: &[f32; 3],
     thrust: f32,
     floor: f32,
 )
     ensures { λ _. ⌜
-        FloatsOf (RotorOutGives (mixer (now (state .entry))) failed (now («torque_body» .entry)) thrust floor)
-        (now (state .exit))
+        RotorOutGives (now (state .entry)) failed (now («torque_body» .entry)) thrust floor (now (state .exit))
         ⌝ }
 {
-    let torque = *torque_body;
-    floats::mix_rotor_out(state, failed, torque, thrust, floor);
+    let before = *state;
+    let after = after_rotor_out(before, failed, torque_body, thrust, floor);
+    *state = after;
 }
+
+// ---- what motors give
 
 #[no_mangle]
 pub extern "C" fn footspandle_motors_to_torque_signs(motors: &[f32; 4], sums: &mut [f32; 3])

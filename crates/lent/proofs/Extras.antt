@@ -1,4 +1,4 @@
--- The parameters of a function that are plain values and that it only passes on, any number of them, in a walk of its
+-- The parameters of a function that it only passes on, any number of them, each of one machine value, in a walk of its
 -- code: their locals are made, take the arguments, are read by a call, and are given back. In a context they are one
 -- item, so that no position depends on how many there are.
 -- Assumes nothing.

@@ -1,10 +1,11 @@
--- Walks by hand of the functions over a lent state: `Extras`, the parameters that are only passed on; `Walk`, the code;
--- `Lending`, the contract; `Parameters`, what each mix takes. `FloatsOf`: a contract on a state becomes one on its five
--- floats. `Refused`: a refused sheet leaves them as they were. `Determined`: the contracts leave nothing open.
+-- Functions over a lent struct, walked by hand, each kind once and for all structs. `Extras`: the parameters that are
+-- only passed on, in the code; `Passed`: the same in the signatures. `Calling`: what a caller has of the function that
+-- it calls. `Walk`: the code over a `&mut`; `Loan`: its contract; `Lending`: the theorems `lends` and `makes`. `Reading`:
+-- the theorems `reads` and `copies`, over a `&`.
 pub mod Extras
+pub mod Passed
+pub mod Calling
 pub mod Walk
+pub mod Loan
 pub mod Lending
-pub mod Parameters
-pub mod FloatsOf
-pub mod Refused
-pub mod Determined
+pub mod Reading
