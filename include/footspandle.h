@@ -25,15 +25,17 @@
  *
  * 1. A pointer is not null, is aligned for its type, and points to as many elements as its type or
  *    the length beside it says. Where the length is 0 nothing is read, but it still is not null.
- * 2. What a function writes to (a pointer that is not to const) overlaps nothing else that the same
- *    call is lent. What is only read may overlap.
+ * 2. What a function writes to (a pointer that is not to const, and is marked FOOTSPANDLE_WRITTEN)
+ *    overlaps nothing else that the same call is lent. What is only read may overlap.
  * 3. Nothing else writes to what is lent, nor reads what is written, while the call runs.
  * 4. All that is lent to be read, and a state, has been written before: footspandle_quad_new makes
  *    a state. Outputs need no value before the call.
  * 5. The processor is in the mode that a program starts in: it rounds to nearest, neither flushes
  *    small results to zero nor takes small numbers for zero, and no floating-point exception traps.
  *    A program that gcc links with -ffast-math starts in another mode.
- * 6. There is room on the stack. Nothing is allocated anywhere else.
+ * 6. There is room for a call: at most 352 bytes of stack (x86-64; compare/stack prints it for each
+ *    function). Some of them can lie under the stack pointer, in the 128 bytes that the System V ABI keeps
+ *    from interrupts. Nothing is allocated anywhere else.
  *
  *
  * Words
@@ -61,6 +63,22 @@
 
 #include <stddef.h>
 #include <stdint.h>
+
+/*
+ * The mark of what a function writes to, which overlaps nothing else of the call (rule 2): restrict, by the
+ * name that the language has for it. It stands after the * of a pointer, or in the brackets of an array,
+ * so that the array's size stays in sight; in brackets only C99 takes it, hence the second name.
+ */
+#if defined(__STDC_VERSION__) && __STDC_VERSION__ >= 199901L && !defined(__cplusplus)
+#define FOOTSPANDLE_WRITTEN restrict
+#define FOOTSPANDLE_WRITTEN_ARRAY restrict
+#elif defined(__GNUC__) || defined(_MSC_VER)
+#define FOOTSPANDLE_WRITTEN __restrict
+#define FOOTSPANDLE_WRITTEN_ARRAY
+#else
+#define FOOTSPANDLE_WRITTEN
+#define FOOTSPANDLE_WRITTEN_ARRAY
+#endif
 
 #ifdef __cplusplus
 extern "C" {
@@ -97,7 +115,10 @@ typedef struct footspandle_wrench {
     float yaw;
 } footspandle_wrench;
 
-/* The archive takes a state as five floats that touch, a wrench as four, and a count as 64 bits. */
+/*
+ * The archive takes a state as the struct of the Rattle code, which is laid out as C lays it out
+ * (`#[repr(C)]`), a wrench as four floats that touch, and a count as 64 bits.
+ */
 typedef char footspandle_quad_is_20_bytes[sizeof(footspandle_quad) == 20 ? 1 : -1];
 typedef char footspandle_wrench_is_16_bytes[sizeof(footspandle_wrench) == 16 ? 1 : -1];
 typedef char footspandle_size_is_8_bytes[sizeof(size_t) == 8 ? 1 : -1];
@@ -132,13 +153,13 @@ enum footspandle_kind {
 /* ---- the quad --------------------------------------------------------------------------------- */
 
 /* Makes a fresh state: four motors of +0, and the scale 1. What stood there does not matter. */
-void footspandle_quad_new(footspandle_quad *state);
+void footspandle_quad_new(footspandle_quad *FOOTSPANDLE_WRITTEN state);
 
 /*
  * Copies the state's motors, which are those of the last mix; in a fresh state four +0. A motor is a
  * NaN only where the state was given one: no mix stores a NaN.
  */
-void footspandle_quad_last_motors(const footspandle_quad *state, float motors[4]);
+void footspandle_quad_last_motors(const footspandle_quad *state, float motors[FOOTSPANDLE_WRITTEN_ARRAY 4]);
 
 /*
  * The state's recorded scale: thrust-floor records the scale that it gave the torque at, rotor-out
@@ -163,7 +184,7 @@ float footspandle_quad_last_torque_scale(const footspandle_quad *state);
  * the largest raw sum is over 1 and up to 2^24, each motor that has it is exactly 1.
  * The recorded scale stays.
  */
-void footspandle_quad_mix(footspandle_quad *state, const float torque_body[3], float thrust);
+void footspandle_quad_mix(footspandle_quad *FOOTSPANDLE_WRITTEN state, const float torque_body[3], float thrust);
 
 /*
  * Thrust-floor: keeps the thrust, and gives up torque by one scale. The collective is the limited
@@ -174,7 +195,8 @@ void footspandle_quad_mix(footspandle_quad *state, const float torque_body[3], f
  * that sum, and the scale is 1. A larger delta never gets a smaller motor.
  * The scale that the deltas were multiplied by, in 0..1 (it may be -0), is recorded.
  */
-void footspandle_quad_mix_thrust_floor(footspandle_quad *state, const float torque_body[3], float thrust, float floor);
+void footspandle_quad_mix_thrust_floor(footspandle_quad *FOOTSPANDLE_WRITTEN state, const float torque_body[3],
+                                       float thrust, float floor);
 
 /*
  * Priority: keeps the thrust, lifted to the floor as in thrust-floor, and gives up torque in two
@@ -187,7 +209,8 @@ void footspandle_quad_mix_thrust_floor(footspandle_quad *state, const float torq
  * that no float is nearer to the second.
  * The recorded scale stays.
  */
-void footspandle_quad_mix_priority(footspandle_quad *state, const float torque_body[3], float thrust, float floor);
+void footspandle_quad_mix_priority(footspandle_quad *FOOTSPANDLE_WRITTEN state, const float torque_body[3],
+                                   float thrust, float floor);
 
 /*
  * Airmode: keeps the torque as far as it fits between the idle floor and 1, and moves the thrust up
@@ -200,7 +223,8 @@ void footspandle_quad_mix_priority(footspandle_quad *state, const float torque_b
  * to that sum.
  * The recorded scale stays.
  */
-void footspandle_quad_mix_airmode(footspandle_quad *state, const float torque_body[3], float thrust, float idle);
+void footspandle_quad_mix_airmode(footspandle_quad *FOOTSPANDLE_WRITTEN state, const float torque_body[3],
+                                  float thrust, float idle);
 
 /*
  * Rotor-out: thrust, roll and pitch on the three rotors that are left where `failed` is 0 to 3 (M1 to
@@ -214,15 +238,15 @@ void footspandle_quad_mix_airmode(footspandle_quad *state, const float torque_bo
  * can turn the roll or pitch that was asked for round (docs/DIFFERENCES.md, F17 and F18).
  * The recorded scale becomes 1, whatever was given.
  */
-void footspandle_quad_mix_rotor_out(footspandle_quad *state, size_t failed, const float torque_body[3], float thrust,
-                                    float floor);
+void footspandle_quad_mix_rotor_out(footspandle_quad *FOOTSPANDLE_WRITTEN state, size_t failed,
+                                    const float torque_body[3], float thrust, float floor);
 
 /*
  * The roll, pitch and yaw that four motors give by the quad's rows: sums from +0 on, M1 first, and
  * not signs. Motors are taken as they are, so that a sum is a NaN where a motor is one or infinities
  * cancel, and infinite where it overflows. Motors in 0..1 lead to neither.
  */
-void footspandle_motors_to_torque_signs(const float motors[4], float sums[3]);
+void footspandle_motors_to_torque_signs(const float motors[4], float sums[FOOTSPANDLE_WRITTEN_ARRAY 3]);
 
 /* ---- MixerN: a frame of up to eight rotors ---------------------------------------------------- */
 
@@ -233,13 +257,13 @@ void footspandle_motors_to_torque_signs(const float motors[4], float sums[3]);
  */
 
 /* Copies the rows as they are, NaNs among them, and answers the count n, a count over 8 as 8. */
-size_t footspandle_mixer_n_new(const float rows[32], size_t n, float mix[32]);
+size_t footspandle_mixer_n_new(const float rows[32], size_t n, float mix[FOOTSPANDLE_WRITTEN_ARRAY 32]);
 
 /* The count of a MixerN: n itself, also over 8, since only footspandle_mixer_n_new cuts it. */
 size_t footspandle_mixer_n_n(const float mix[32], size_t n);
 
 /* Writes the quad's four rows and four rows of +0, and answers the count 4. */
-size_t footspandle_mixer_n_quad_x(float mix[32]);
+size_t footspandle_mixer_n_quad_x(float mix[FOOTSPANDLE_WRITTEN_ARRAY 32]);
 
 /*
  * Torque and thrust to eight motors. Thrust and torque are treated; each row's sum is treated; if the
@@ -248,7 +272,8 @@ size_t footspandle_mixer_n_quad_x(float mix[32]);
  * those of footspandle_quad_mix, by bits, unless a raw sum of that one is +infinity.
  * All eight motors are written, also those past the count.
  */
-void footspandle_mixer_n_mix(const float mix[32], size_t n, const float torque_body[3], float thrust, float motors[8]);
+void footspandle_mixer_n_mix(const float mix[32], size_t n, const float torque_body[3], float thrust,
+                             float motors[FOOTSPANDLE_WRITTEN_ARRAY 8]);
 
 /*
  * The thrust, roll, pitch and yaw that eight motors give by the matrix: sums from +0 on. Motors are
@@ -256,7 +281,7 @@ void footspandle_mixer_n_mix(const float mix[32], size_t n, const float torque_b
  * matrix, an infinity in it times zero, or infinities that cancel, those of an overflow among them.
  */
 void footspandle_mixer_n_achieved_wrench(const float mix[32], size_t n, const float motors[8],
-                                         footspandle_wrench *wrench);
+                                         footspandle_wrench *FOOTSPANDLE_WRITTEN wrench);
 
 /* ---- any frame, by lent rows ------------------------------------------------------------------ */
 
@@ -270,10 +295,10 @@ float footspandle_clamp01(float x);
  * and one of +infinity gives 1. There is no floor.
  * Answers 0, and then every output lies in 0..1, for every row and wrench. Over 64 outputs, or
  * rows_length other than 4 * out_length, is refused with 10, and the outputs stay as they were. No
- * outputs with no rows are accepted, and nothing is written.
+ * outputs with no rows are accepted, and nothing is written; rows and out must not be NULL even then.
  */
 uint32_t footspandle_mixer_mix(const float *rows, size_t rows_length, const footspandle_wrench *w,
-                               float *out, size_t out_length);
+                               float *FOOTSPANDLE_WRITTEN out, size_t out_length);
 
 /*
  * Thrust-floor for any frame: keeps the thrust, and gives up torque by one scale over all rotors. Rows
@@ -291,38 +316,42 @@ uint32_t footspandle_mixer_mix(const float *rows, size_t rows_length, const foot
  * the deltas cancel, as hex_x's and octo_coax's do, is arithmetic and not proved.
  * What footspandle_mixer_mix refuses with 10 is refused so here, and the outputs and *scale stay as they
  * were. No outputs with no rows are accepted: nothing is written to out, and the scale is 1.
+ * scale must not be NULL, also where it is not wanted, nor rows and out, also where there are none.
  * While the call runs, out holds the deltas for a time (rule 3 of what the caller owes).
  */
 uint32_t footspandle_mixer_mix_thrust_floor(const float *rows, size_t rows_length, const footspandle_wrench *w,
-                                            float floor, float *out, size_t out_length, float *scale);
+                                            float floor, float *FOOTSPANDLE_WRITTEN out, size_t out_length,
+                                            float *FOOTSPANDLE_WRITTEN scale);
 
 /*
  * Writes the six rows of hex_x, as the two mixes take them, each number as the nearest float:
  * thrust 1, and roll, pitch, yaw -1,0,1; 1,0,-1; 0.5,-0.866,1; -0.5,0.866,-1; -0.5,-0.866,-1;
  * 0.5,0.866,1.
  */
-void footspandle_hex_x(float rows[24]);
+void footspandle_hex_x(float rows[FOOTSPANDLE_WRITTEN_ARRAY 24]);
 
 /*
  * The same of octo_coax, eight rows: thrust 1, and roll, pitch, yaw -0.707,0.707,1; -0.707,0.707,-1;
  * 0.707,-0.707,1; 0.707,-0.707,-1; 0.707,0.707,-1; 0.707,0.707,1; -0.707,-0.707,-1; -0.707,-0.707,1.
  */
-void footspandle_octo_coax(float rows[32]);
+void footspandle_octo_coax(float rows[FOOTSPANDLE_WRITTEN_ARRAY 32]);
 
 /* footspandle_mixer_mix by the rows of hex_x, which cannot be refused: every output lies in 0..1. */
-void footspandle_mix_hex_x(const footspandle_wrench *w, float out[6]);
+void footspandle_mix_hex_x(const footspandle_wrench *w, float out[FOOTSPANDLE_WRITTEN_ARRAY 6]);
 
 /* The same by the rows of octo_coax. */
-void footspandle_mix_octo_coax(const footspandle_wrench *w, float out[8]);
+void footspandle_mix_octo_coax(const footspandle_wrench *w, float out[FOOTSPANDLE_WRITTEN_ARRAY 8]);
 
 /*
  * footspandle_mixer_mix_thrust_floor by the rows of hex_x, which cannot be refused: answers the scale,
  * and what is promised there is promised here.
  */
-float footspandle_mix_thrust_floor_hex_x(const footspandle_wrench *w, float floor, float out[6]);
+float footspandle_mix_thrust_floor_hex_x(const footspandle_wrench *w, float floor,
+                                         float out[FOOTSPANDLE_WRITTEN_ARRAY 6]);
 
 /* The same by the rows of octo_coax. */
-float footspandle_mix_thrust_floor_octo_coax(const footspandle_wrench *w, float floor, float out[8]);
+float footspandle_mix_thrust_floor_octo_coax(const footspandle_wrench *w, float floor,
+                                             float out[FOOTSPANDLE_WRITTEN_ARRAY 8]);
 
 /* ---- the command sheet ------------------------------------------------------------------------ */
 
@@ -345,32 +374,39 @@ float footspandle_mix_thrust_floor_octo_coax(const footspandle_wrench *w, float 
 
 /*
  * Whether a sheet is accepted: answers 0 or a number about the sheet (9 is about an output), and stores
- * the entry.
+ * the entry at entry_number.
+ * entry_number must not be NULL, also where it is not wanted, nor the sheet, also where it has no bytes.
  */
-uint32_t footspandle_sheet_check(const uint8_t *sheet, size_t sheet_length, uint32_t *entry);
+uint32_t footspandle_sheet_check(const uint8_t *sheet, size_t sheet_length, uint32_t *FOOTSPANDLE_WRITTEN entry_number);
 
 /*
  * The body of entry i as a part of the sheet: answers its length, 16 or 20, and stores where it
  * begins in the sheet; it ends within the sheet. For a sheet that footspandle_sheet_check refuses, and
  * for an i that is not under the count of entries, the part is empty: 0 is answered, and 0 is stored.
+ * at must not be NULL, also where it is not wanted, nor the sheet, also where it has no bytes.
  */
-size_t footspandle_sheet_body(const uint8_t *sheet, size_t sheet_length, size_t i, size_t *at);
+size_t footspandle_sheet_body(const uint8_t *sheet, size_t sheet_length, size_t i,
+                              size_t *FOOTSPANDLE_WRITTEN at);
 
 /*
  * Runs a sheet from a state: its commands as calls of the mixes, one after another. Answers 0,
- * or what footspandle_sheet_check does of a refused sheet, or 9, and stores the entry.
+ * or what footspandle_sheet_check does of a refused sheet, or 9, and stores the entry at entry_number.
  * On 0 the state is that after the last call, and the answer of entry i stands in the bytes 20i to
  * 20i + 19 of the output: four motors and then the recorded scale after that call, each as the bits
  * of its float, little-endian (a NaN, which only the scale of the lent state can be, as 7fc00000).
  * The bytes past the last answer stay as they were. Each answer keeps what its mix promises.
- * On any other number the output is as it was, byte by byte, and so is the state, but that a NaN in
- * it may be another NaN.
+ * On any other number the output and the state are as they were, byte by byte.
+ * entry_number must not be NULL, also where it is not wanted, nor sheet and out, also where they have no bytes.
  */
-uint32_t footspandle_sheet_run(const uint8_t *sheet, size_t sheet_length, footspandle_quad *state,
-                               uint8_t *out, size_t out_length, uint32_t *entry);
+uint32_t footspandle_sheet_run(const uint8_t *sheet, size_t sheet_length, footspandle_quad *FOOTSPANDLE_WRITTEN state,
+                               uint8_t *FOOTSPANDLE_WRITTEN out, size_t out_length,
+                               uint32_t *FOOTSPANDLE_WRITTEN entry_number);
 
 #ifdef __cplusplus
 }
 #endif
+
+#undef FOOTSPANDLE_WRITTEN
+#undef FOOTSPANDLE_WRITTEN_ARRAY
 
 #endif

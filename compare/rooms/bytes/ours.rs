@@ -1,10 +1,10 @@
 //! Ours, as the crate `probes` exports it.
 
 extern "C" {
-    fn probe_read_u16(s: *const u8, n: usize, at: usize) -> u16;
-    fn probe_read_u32(s: *const u8, n: usize, at: usize) -> u32;
-    fn probe_write_u16(out: *mut u8, n: usize, at: usize, x: u16);
-    fn probe_write_u32(out: *mut u8, n: usize, at: usize, x: u32);
+    fn probe_read_u16(s: *const u8, s_length: usize, at: usize) -> u16;
+    fn probe_read_u32(s: *const u8, s_length: usize, at: usize) -> u32;
+    fn probe_write_u16(out: *mut u8, out_length: usize, at: usize, x: u16);
+    fn probe_write_u32(out: *mut u8, out_length: usize, at: usize, x: u32);
 }
 
 #[inline]

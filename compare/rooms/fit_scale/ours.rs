@@ -5,9 +5,9 @@ use super::inputs::Fit;
 extern "C" {
     fn probe_scale(
         base: *const f32,
-        base_len: usize,
+        base_length: usize,
         delta: *const f32,
-        delta_len: usize,
+        delta_length: usize,
         floor: f32,
     ) -> f32;
 }

@@ -11,7 +11,7 @@ extern "C" {
     pub fn footspandle_mixer_n_mix(
         mix: *const [f32; 32],
         n: usize,
-        torque: *const [f32; 3],
+        torque_body: *const [f32; 3],
         thrust: f32,
         motors: *mut [f32; 8],
     );

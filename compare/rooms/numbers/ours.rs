@@ -1,5 +1,5 @@
 //! Ours: the inner functions as the crate `probes` exports them, and 001's as `exported` does.
-//! Nothing checks the declarations here, and in the other rooms, against the Rattle source.
+//! The gate holds the declarations here, and in the other rooms, to the Rattle source.
 
 extern "C" {
     fn probe_is_finite(x: f32) -> bool;

@@ -10,29 +10,29 @@ extern "C" {
     fn footspandle_quad_new(state: *mut State);
     fn footspandle_quad_last_motors(state: *const State, motors: *mut [f32; 4]);
     fn footspandle_quad_last_torque_scale(state: *const State) -> f32;
-    pub fn footspandle_quad_mix(state: *mut State, torque: *const [f32; 3], thrust: f32);
+    pub fn footspandle_quad_mix(state: *mut State, torque_body: *const [f32; 3], thrust: f32);
     pub fn footspandle_quad_mix_thrust_floor(
         state: *mut State,
-        torque: *const [f32; 3],
+        torque_body: *const [f32; 3],
         thrust: f32,
         floor: f32,
     );
     pub fn footspandle_quad_mix_priority(
         state: *mut State,
-        torque: *const [f32; 3],
+        torque_body: *const [f32; 3],
         thrust: f32,
         floor: f32,
     );
     pub fn footspandle_quad_mix_airmode(
         state: *mut State,
-        torque: *const [f32; 3],
+        torque_body: *const [f32; 3],
         thrust: f32,
         idle: f32,
     );
     pub fn footspandle_quad_mix_rotor_out(
         state: *mut State,
         failed: usize,
-        torque: *const [f32; 3],
+        torque_body: *const [f32; 3],
         thrust: f32,
         floor: f32,
     );

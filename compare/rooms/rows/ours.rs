@@ -8,15 +8,15 @@ use crate::frames::frame::Wrench;
 extern "C" {
     pub fn footspandle_mixer_mix(
         rows: *const f32,
-        rows_len: usize,
-        wrench: *const Wrench,
+        rows_length: usize,
+        w: *const Wrench,
         out: *mut f32,
-        out_len: usize,
+        out_length: usize,
     ) -> u32;
     fn footspandle_hex_x(rows: *mut [f32; 24]);
     fn footspandle_octo_coax(rows: *mut [f32; 32]);
-    fn footspandle_mix_hex_x(wrench: *const Wrench, out: *mut [f32; 6]);
-    fn footspandle_mix_octo_coax(wrench: *const Wrench, out: *mut [f32; 8]);
+    fn footspandle_mix_hex_x(w: *const Wrench, out: *mut [f32; 6]);
+    fn footspandle_mix_octo_coax(w: *const Wrench, out: *mut [f32; 8]);
 }
 
 /// The number that a call answers, and the room for outputs afterwards, of which a part is lent.

@@ -12,18 +12,27 @@ const LENT_ENTRY: u32 = u32::MAX;
 const LENT_PLACE: usize = usize::MAX;
 
 extern "C" {
-    pub fn footspandle_sheet_check(sheet: *const u8, n: usize, entry: *mut u32) -> u32;
-    fn footspandle_sheet_body(sheet: *const u8, n: usize, i: usize, at: *mut usize) -> usize;
+    pub fn footspandle_sheet_check(
+        sheet: *const u8,
+        sheet_length: usize,
+        entry_number: *mut u32,
+    ) -> u32;
+    fn footspandle_sheet_body(
+        sheet: *const u8,
+        sheet_length: usize,
+        i: usize,
+        at: *mut usize,
+    ) -> usize;
     pub fn footspandle_sheet_run(
         sheet: *const u8,
-        n: usize,
+        sheet_length: usize,
         state: *mut State,
         out: *mut u8,
-        m: usize,
-        entry: *mut u32,
+        out_length: usize,
+        entry_number: *mut u32,
     ) -> u32;
 
-    fn probe_sheet_text(sheet: *const u8, n: usize, text: *mut [u8; TEXT]) -> usize;
+    fn probe_sheet_text(sheet: *const u8, sheet_length: usize, text: *mut [u8; TEXT]) -> usize;
 }
 
 #[derive(Clone, Copy)]

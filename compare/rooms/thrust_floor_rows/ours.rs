@@ -8,20 +8,16 @@ use crate::frames::frame::Wrench;
 extern "C" {
     pub fn footspandle_mixer_mix_thrust_floor(
         rows: *const f32,
-        rows_len: usize,
-        wrench: *const Wrench,
+        rows_length: usize,
+        w: *const Wrench,
         floor: f32,
         out: *mut f32,
-        out_len: usize,
+        out_length: usize,
         scale: *mut f32,
     ) -> u32;
-    fn footspandle_mix_thrust_floor_hex_x(
-        wrench: *const Wrench,
-        floor: f32,
-        out: *mut [f32; 6],
-    ) -> f32;
+    fn footspandle_mix_thrust_floor_hex_x(w: *const Wrench, floor: f32, out: *mut [f32; 6]) -> f32;
     pub fn footspandle_mix_thrust_floor_octo_coax(
-        wrench: *const Wrench,
+        w: *const Wrench,
         floor: f32,
         out: *mut [f32; 8],
     ) -> f32;

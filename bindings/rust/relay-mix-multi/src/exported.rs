@@ -4,8 +4,8 @@
 //! What every call owes is said in include/footspandle.h, 'What the caller owes'. Of that the types
 //! here carry 1 to 4: a reference is not null, is aligned, points to a whole value that was written,
 //! and where it is exclusive nothing else reads or writes that value. A slice passes with its own
-//! length. 5, the processor's rounding mode, Rust takes for granted everywhere. Nothing checks these
-//! declarations against the Rattle source; bindings/rust/test runs every one.
+//! length. 5, the processor's rounding mode, Rust takes for granted everywhere. The gate holds these
+//! declarations to the Rattle source, by bindings/declarations; bindings/rust/test runs every one.
 
 use crate::Wrench;
 

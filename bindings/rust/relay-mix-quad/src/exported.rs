@@ -5,14 +5,14 @@
 //! here carry 1 to 4: a reference is not null, is aligned, points to a whole value that was written,
 //! and where it is exclusive nothing else reads or writes that value. A reference to an array points
 //! to as many elements as its type says, and a slice passes with its own length. 5, the processor's
-//! rounding mode, Rust takes for granted everywhere. Nothing checks these declarations against the
-//! Rattle source; bindings/rust/test runs every one.
+//! rounding mode, Rust takes for granted everywhere. The gate holds these declarations to the Rattle
+//! source, by bindings/declarations; bindings/rust/test runs every one.
 
 use crate::{QuadMixer, MAX_ROTORS};
 
 type Rows = [[f32; 4]; MAX_ROTORS];
 
-// A state passes as five floats, and eight rows as 32: they touch, so the layouts are the same.
+// A state is five floats, and eight rows are 32: they touch, so the layouts are the same.
 const _: () = assert!(core::mem::size_of::<QuadMixer>() == 20);
 const _: () = assert!(core::mem::size_of::<Rows>() == 4 * 32);
 
@@ -61,7 +61,11 @@ extern "C" {
         motors: *const [f32; MAX_ROTORS],
         wrench: *mut [f32; 4],
     );
-    fn footspandle_sheet_check(sheet: *const u8, sheet_length: usize, entry: *mut u32) -> u32;
+    fn footspandle_sheet_check(
+        sheet: *const u8,
+        sheet_length: usize,
+        entry_number: *mut u32,
+    ) -> u32;
     fn footspandle_sheet_body(
         sheet: *const u8,
         sheet_length: usize,
@@ -74,7 +78,7 @@ extern "C" {
         state: *mut QuadMixer,
         out: *mut u8,
         out_length: usize,
-        entry: *mut u32,
+        entry_number: *mut u32,
     ) -> u32;
 }
 
