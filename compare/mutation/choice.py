@@ -14,7 +14,7 @@ USUAL = 13
 NUMBER = {
     'binary32': 16, 'rules': 18, 'quad': 12, 'text': 10, 'solve': 10, 'entries': 10, 'airmode': 10, 'sheet': 10,
     'thrust_floor': 10, 'torque': 10, 'lowering': 10, 'frame': 10, 'bodies': 10, 'plain': 10, 'rotor_out': 9,
-    'priority': 9, 'sheet_run': 9, 'lines': 8, 'lent': 8, 'exported': 8, 'probes': 8, 'report': 4,
+    'priority': 9, 'sheet_run': 9, 'lines': 8, 'exported': 8, 'probes': 8, 'report': 4,
 }
 
 POSSIBLE = {}

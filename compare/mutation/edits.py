@@ -282,9 +282,10 @@ def answers_in(source, function):
                 add(statement[0], statement[-1], f'*{stored} = {new}')
     return found
 
-# Functions that are walked by hand: a walk is about one code, so that another is refused as not being that one
-# (docs/DECISIONS.md, 74).
-WALKED = (('lent', 'src/lib.rt'),)
+# A function over a struct behind a reference is walked by hand, and a walk is about one code: another is refused as not
+# being that one (docs/DECISIONS.md, 74).
+def walked(function):
+    return any(re.match(r'&\s*(mut)?\s*[A-Z]', of or '') for _, of in function.parameters)
 
 # So a token of the contract is edited, which the code then fails to meet: what is left for what was found, and a float
 # for another.
@@ -300,9 +301,11 @@ def mutants_of_code(code, crate):
     found = []
     for source in code.of(crate):
         for function in source.functions:
+            if walked(function):
+                found += contract_edits(source, function)
+                continue
             found += edits_in(code, source, function, function.called, function.body, scopes(code, source, function))
             found += answers_in(source, function)
-            found += contract_edits(source, function) if (crate, source.file) in WALKED else []
         for name, (_, _, value) in source.constants.items():
             found += edits_in(code, source, None, f'const {name}', value, None)
     return sorted(found, key=lambda m: (m.file, m.start, m.new))
