@@ -1,7 +1,7 @@
 -- A function by value, lent: where `g(s: T, ..) -> T` meets its contract, the function `f(s: &mut T, ..)` that calls it
 -- and stores what it gives meets the same contract, said of the struct that stands there afterwards (`lends`). So does
 -- an `f(s: &mut T)` that stores what a `g() -> T` gives, and does not read what stood there (`makes`). T is any declared
--- type, and what is passed on is any number of plain values and shared references (`Passed`): so a function that is lent
+-- type, and what is passed on is any number of plain values and shared references (`PassedOn`): so a function that is lent
 -- a struct costs its proof file the words that name the two functions.
 -- Assumes nothing.
 use mathlib.Core.Path.{_≡_, refl, sym, subst, ap, _∙_}
@@ -36,13 +36,13 @@ use denote.Triple.Table.{entered, cited}
 use Rattle.lent.proofs.Calling.{giving, Callee, hands-back}
 use Rattle.lent.proofs.Extras.{values}
 use Rattle.lent.proofs.Loan.{onLoan, tokens, passing, loan-meets}
-use Rattle.lent.proofs.Passed.{Passed, mirs, slots, slots-inside, rows, rows-inside, spelled, machine}
-use Rattle.lent.proofs.Passed.{in-a-row, across, across-values, across-flat, across-owns}
+use Rattle.lent.proofs.PassedOn.{PassedOn, mirs, slots, slots-inside, rows, rows-inside, spelled, machine}
+use Rattle.lent.proofs.PassedOn.{in-a-row, across, across-values, across-flat, across-owns}
 use Rattle.lent.proofs.Walk.{val, lent, lent-unread, walks, walks-unread}
 
 -- ---- the function that is called
 
-module _ (T : Declared) {n : ℕ} (ps : List (Passed n)) where
+module _ (T : Declared) {n : ℕ} (ps : List (PassedOn n)) where
   abbrev taken : List (Slot n)
   taken = plain (λ κs. row T) ∷ slots-inside ps
 
@@ -52,7 +52,7 @@ module _ (T : Declared) {n : ℕ} (ps : List (Passed n)) where
   abbrev pub byValue : Ended
   byValue = giving (row T) n taken kept
 
-module _ (T : Declared) (L : LL.Laws T) {n : ℕ} (ps : List (Passed n)) {M : Type 1} (𝓤 : URA M) (H : Heap 𝓤)
+module _ (T : Declared) (L : LL.Laws T) {n : ℕ} (ps : List (PassedOn n)) {M : Type 1} (𝓤 : URA M) (H : Heap 𝓤)
     (A : Atoms 𝓤) (W : Given 𝓤 H A) (c : Clauses 𝓤 (byValue T ps)) (κs : Lfts (suc n)) (qs : Shares (suc n))
     (x : RefT (T .D)) (a : Denots (rows κs ps)) (ghost : c (κs .1) (now x, across κs ps a) .ghost) where
   abbrev vss : Valss (rows κs ps)
@@ -92,7 +92,7 @@ module _ (T : Declared) (L : LL.Laws T) {n : ℕ} (ps : List (Passed n)) {M : Ty
 module _ (T : Declared) (L : LL.Laws T) {M : Type 1} (𝓤 : URA M) (H : Heap 𝓤) (𝓜 : Model 𝓤 H) (𝓖 : GhostRules 𝓤 H)
     (𝓡 : Running 𝓤 H 𝓜) where
   -- R h a r is said of the struct h before, the other parameters a and the struct r after
-  pub lends : {n : ℕ} (ps : List (Passed n)) (f g : Name) (env : Env)
+  pub lends : {n : ℕ} (ps : List (PassedOn n)) (f g : Name) (env : Env)
       → Closed 𝓤 H (tables 𝓤 H 𝓜 𝓡 env .C) (tables 𝓤 H 𝓜 𝓡 env .Λ) f (lent T g n (mirs ps))
       → (routine : Routine) → env g ≡ routine
       → (c₀ : Clauses 𝓤 (byValue T ps)) (c : Clauses 𝓤 (onLoan T ps))
@@ -131,7 +131,7 @@ module _ (T : Declared) (L : LL.Laws T) {M : Type 1} (𝓤 : URA M) (H : Heap �
   abbrev pub made : Ended
   made = giving (row T) 0 [] tt
 
-  abbrev none : List (Passed 0)
+  abbrev none : List (PassedOn 0)
   none = []
 
   -- R r is said of the struct r after

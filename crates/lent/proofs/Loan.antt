@@ -32,11 +32,11 @@ use denote.Triple.End.{Fins, all}
 use denote.Triple.Spec.{Meets}
 use denote.Triple.Walked.{Stays, stay-ref, hasOf, walkOf, goes-ref, ends-at, walked, walk-meets}
 use Rattle.lent.proofs.Extras.{Typed, values}
-use Rattle.lent.proofs.Passed.{Passed, mirs, slots, rows, spelled, told, machine, in-a-row, typed}
-use Rattle.lent.proofs.Passed.{lasting, dropped, fits, had, go-dropped}
+use Rattle.lent.proofs.PassedOn.{PassedOn, mirs, slots, rows, spelled, told, machine, in-a-row, typed}
+use Rattle.lent.proofs.PassedOn.{lasting, dropped, fits, had, go-dropped}
 use Rattle.lent.proofs.Walk.{Ends}
 
-module _ (T : Declared) {n : ℕ} (ps : List (Passed n)) where
+module _ (T : Declared) {n : ℕ} (ps : List (PassedOn n)) where
   abbrev pub onLoan : Ended
   onLoan = record {
     signature = record {
@@ -56,12 +56,12 @@ module _ (n : ℕ) {M : Type 1} (𝓤 : URA M) (A : Atoms 𝓤) (κs : Lfts (suc
   abbrev pub tokens : SProp 𝓤
   tokens = toks 𝓤 A n (κs .1) (qs .1)
 
-  abbrev pub passing : (H : Heap 𝓤) (ps : List (Passed n)) → Denots (rows κs ps) → SProp 𝓤
+  abbrev pub passing : (H : Heap 𝓤) (ps : List (PassedOn n)) → Denots (rows κs ps) → SProp 𝓤
   passing H ps a = sep 𝓤 (sem 𝓤 H A (owns (rows κs ps) a (valss (rows κs ps) (spelled κs ps) a))) tokens
 
 -- c is the contract, which says Says κs x a r of the struct x that was lent, the other parameters a and the struct r
 -- after
-module _ (T : Declared) (L : LL.Laws T) {n : ℕ} (ps : List (Passed n)) {M : Type 1} (𝓤 : URA M) (H : Heap 𝓤)
+module _ (T : Declared) (L : LL.Laws T) {n : ℕ} (ps : List (PassedOn n)) {M : Type 1} (𝓤 : URA M) (H : Heap 𝓤)
     (A : Atoms 𝓤) (W : Given 𝓤 H A) (c : Clauses 𝓤 (onLoan T ps))
     (Says : (κs : Lfts (suc n)) → RefT (T .D) → Denots (rows κs ps) → T .D → Type 0)
     (updates : (κs : Lfts (suc n)) (x : RefT (T .D)) (a : Denots (rows κs ps)) (g : c κs (x, a) .ghost)

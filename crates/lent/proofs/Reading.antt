@@ -51,7 +51,7 @@ use denote.Triple.Table.{entered, cited}
 use denote.Triple.Walked.{Stays, stay-dropped, stay-ref, walkOf, goes-dropped, goes-ref, ends-at, walked, walk-meets}
 use Rattle.lent.proofs.Calling.{HandsBack, giving, Callee, hands-back}
 use Rattle.lent.proofs.Extras.{at}
-use Rattle.lent.proofs.Passed.{one-typed}
+use Rattle.lent.proofs.PassedOn.{one-typed}
 use Rattle.lent.proofs.Walk.{State, val, holds, room, owned}
 
 -- ---- the code
