@@ -5,6 +5,7 @@
 #include <string.h>
 
 #include "kinds.h"
+#include "sealed.h"
 
 /* Functions inside of the library. They are named, so that no record is passed over unseen. */
 static const struct kind not_exported[] = {
@@ -72,20 +73,36 @@ void give_number(struct given *given, size_t number) {
     given->count++;
 }
 
+/* A function of a kind, and what it is run on. */
+struct call {
+    answer_function *answer;
+    struct asked asked;
+    struct given *given;
+};
+
+static void answer(void *of) {
+    const struct call *call = of;
+    call->answer(&call->asked, call->given);
+}
+
 /* Runs the function of a kind on the inputs of a record. */
 static void run(const struct kind *kind, const uint8_t *record, struct given *given) {
     float x[MOST_INPUTS];
-    struct asked asked;
+    struct call call;
+    const char *broken;
     size_t i;
     for (i = 0; i < inputs_of(kind->head); i++) {
         x[i] = float_of(word_at(record + 4 + 4 * i));
     }
-    asked.x = x;
-    asked.answers = answers_of(kind->head);
-    asked.number = kind->number;
+    call.answer = kind->answer;
+    call.asked.x = x;
+    call.asked.answers = answers_of(kind->head);
+    call.asked.number = kind->number;
+    call.given = given;
     given->count = 0;
     given->fault.words[0] = '\0';
-    kind->answer(&asked, given);
+    broken = broken_seal(answer, &call);
+    must(&given->fault, broken == NULL, "%s", broken);
 }
 
 static void compare(const struct kind *kind, const uint8_t *record, size_t number,

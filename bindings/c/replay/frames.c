@@ -6,8 +6,11 @@
 #include "footspandle.h"
 #include "kinds.h"
 #include "lent.h"
+#include "sealed.h"
 
 #define MATRIX_BYTES (4 * FOOTSPANDLE_MATRIX_FLOATS)
+
+static struct sealed matrix = SEALED("it wrote to the matrix");
 
 /* A MixerN, as a caller keeps it. */
 struct mixer {
@@ -17,13 +20,13 @@ struct mixer {
 
 /* The first 32 inputs as the rows of a MixerN, which has them as they are, a NaN's bits aside. */
 static struct mixer new_mixer(const struct asked *asked, struct given *given) {
+    static struct sealed rows = SEALED("mixer_n_new wrote to the rows");
     struct mixer mixer;
-    struct lent rows, mix;
+    struct lent mix;
     struct given told, copied;
     float *written = lend(&mix, NULL, MATRIX_BYTES, 4);
     mixer.n =
-        footspandle_mixer_n_new(lend(&rows, asked->x, MATRIX_BYTES, 4), asked->number, written);
-    must(&given->fault, is_untouched(&rows), "mixer_n_new wrote to the rows");
+        footspandle_mixer_n_new(seal(&rows, asked->x, MATRIX_BYTES, 4), asked->number, written);
     must(&given->fault, is_kept(&mix), "mixer_n_new wrote outside of the matrix");
     told.count = copied.count = 0;
     give_floats(&told, asked->x, FOOTSPANDLE_MATRIX_FLOATS);
@@ -36,22 +39,20 @@ static struct mixer new_mixer(const struct asked *asked, struct given *given) {
 
 /* The command is roll, pitch, yaw and thrust. The answers are eight motors, and what `n` says. */
 static void mix_by(const struct mixer *mixer, const float *command, struct given *given) {
-    struct lent mix, torque, motors;
-    float *matrix = lend(&mix, mixer->mix, MATRIX_BYTES, 4);
+    static struct sealed torque = SEALED("it wrote to the torque");
+    struct lent motors;
+    const float *mix = seal(&matrix, mixer->mix, MATRIX_BYTES, 4);
     float *written = lend(&motors, NULL, 4 * FOOTSPANDLE_MAX_ROTORS, 4);
-    footspandle_mixer_n_mix(matrix, mixer->n, lend(&torque, command, 12, 4), command[3], written);
+    footspandle_mixer_n_mix(mix, mixer->n, seal(&torque, command, 12, 4), command[3], written);
     give_floats(given, written, FOOTSPANDLE_MAX_ROTORS);
-    give_number(given, footspandle_mixer_n_n(matrix, mixer->n));
-    must(&given->fault, is_untouched(&mix) && is_untouched(&torque),
-         "it wrote to what it may read");
+    give_number(given, footspandle_mixer_n_n(mix, mixer->n));
     must(&given->fault, is_kept(&motors), "it wrote outside of the motors");
 }
 
 /* A count that is not made by mixer_n_new is not cut. */
 static void mix_n(const struct asked *asked, struct given *given) {
     struct mixer mixer = new_mixer(asked, given);
-    struct lent mix;
-    size_t n = footspandle_mixer_n_n(lend(&mix, mixer.mix, MATRIX_BYTES, 4), asked->number);
+    size_t n = footspandle_mixer_n_n(seal(&matrix, mixer.mix, MATRIX_BYTES, 4), asked->number);
     must(&given->fault, n == asked->number, "mixer_n_n of %u is another", (unsigned)asked->number);
     mix_by(&mixer, asked->x + FOOTSPANDLE_MATRIX_FLOATS, given);
 }
@@ -67,15 +68,14 @@ static void mix_quad_x(const struct asked *asked, struct given *given) {
 }
 
 static void achieved_wrench(const struct asked *asked, struct given *given) {
+    static struct sealed motors = SEALED("it wrote to the motors");
     struct mixer mixer = new_mixer(asked, given);
     const float *flown = asked->x + FOOTSPANDLE_MATRIX_FLOATS;
-    struct lent mix, motors, wrench;
+    struct lent wrench;
     footspandle_wrench *written = lend(&wrench, NULL, sizeof *written, 4);
-    footspandle_mixer_n_achieved_wrench(lend(&mix, mixer.mix, MATRIX_BYTES, 4), mixer.n,
-                                        lend(&motors, flown, 4 * FOOTSPANDLE_MAX_ROTORS, 4),
+    footspandle_mixer_n_achieved_wrench(seal(&matrix, mixer.mix, MATRIX_BYTES, 4), mixer.n,
+                                        seal(&motors, flown, 4 * FOOTSPANDLE_MAX_ROTORS, 4),
                                         written);
-    must(&given->fault, is_untouched(&mix) && is_untouched(&motors),
-         "it wrote to what it may read");
     must(&given->fault, is_kept(&wrench), "it wrote outside of the wrench");
     give_floats(given, written, 4);
 }

@@ -9,14 +9,17 @@
  *
  * It prints a line for each of the first differences, a line for each list, and last how much was
  * compared in all and how much of it differs. What is not read never passes: a head that no kind
- * has counts as a difference, and so does a list that is not as many whole records as it says. Exit
- * status 0 only if nothing differs; a bad call is 2.
+ * has counts as a difference, and so does a list that is not as many whole records as it says. A
+ * write to what a call may only read, or has to leave alone because it refuses, counts as one too,
+ * also where it leaves the bytes as they were. Exit status 0 only if nothing differs; 2 is a bad
+ * call, or a machine on which such a write is not noticed.
  *
  * `bindings/c/run` builds and runs it.
  */
 #include <stdio.h>
 
 #include "list.h"
+#include "sealed.h"
 
 struct list {
     const char *path; /* from the root */
@@ -69,6 +72,10 @@ int main(int argc, char **argv) {
     size_t i, differ = 0;
     if (argc > 2) {
         fprintf(stderr, "usage: replay [ROOT]\n");
+        return 2;
+    }
+    if (!seals_hold()) {
+        fprintf(stderr, "replay: a write to sealed memory is not noticed here\n");
         return 2;
     }
     for (i = 0; i < LISTS; i++) {

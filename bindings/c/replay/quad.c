@@ -7,27 +7,29 @@
 #include "footspandle.h"
 #include "kinds.h"
 #include "lent.h"
+#include "sealed.h"
 
 static struct lent held;        /* the state, between its guard bytes */
 static footspandle_quad *state; /* where it stands */
+
+static struct sealed torque = SEALED("it wrote to the torque");
 
 void start_quad(void) {
     state = lend(&held, NULL, sizeof *state, 4);
     footspandle_quad_new(state);
 }
 
-/* The state as the answer, by the readers, which leave it alone, and by its bytes. */
+/* The state as the answer, by the readers, which may not write to it, and by its bytes. */
 static void read_state(struct given *given) {
-    uint8_t before[sizeof *state];
+    static struct sealed copy = SEALED("a reader wrote to the state");
+    const footspandle_quad *sealed = seal(&copy, state, sizeof *state, 4);
     struct lent motors;
     struct given bytes;
     float *read = lend(&motors, NULL, sizeof state->last_motors, 4);
     float scale;
-    memcpy(before, state, sizeof before);
     must(&given->fault, is_kept(&held), "it wrote outside of the state");
-    footspandle_quad_last_motors(state, read);
-    scale = footspandle_quad_last_torque_scale(state);
-    must(&given->fault, memcmp(state, before, sizeof before) == 0, "a reader changed the state");
+    footspandle_quad_last_motors(sealed, read);
+    scale = footspandle_quad_last_torque_scale(sealed);
     must(&given->fault, is_kept(&motors), "a reader wrote outside of the motors");
     give_floats(given, read, 4);
     give_floats(given, &scale, 1);
@@ -53,18 +55,14 @@ static void new_state(const struct asked *asked, struct given *given) {
 /* ---- the mixes: roll, pitch, yaw, thrust and, but for plain, a floor ---- */
 
 static void plain(const struct asked *asked, struct given *given) {
-    struct lent torque;
-    footspandle_quad_mix(state, lend(&torque, asked->x, 12, 4), asked->x[3]);
-    must(&given->fault, is_untouched(&torque), "it wrote to the torque");
+    footspandle_quad_mix(state, seal(&torque, asked->x, 12, 4), asked->x[3]);
     read_state(given);
 }
 
 typedef void floored_mix(footspandle_quad *, const float *, float, float);
 
 static void run_floored(const struct asked *asked, struct given *given, floored_mix *mix) {
-    struct lent torque;
-    mix(state, lend(&torque, asked->x, 12, 4), asked->x[3], asked->x[4]);
-    must(&given->fault, is_untouched(&torque), "it wrote to the torque");
+    mix(state, seal(&torque, asked->x, 12, 4), asked->x[3], asked->x[4]);
     read_state(given);
 }
 
@@ -80,16 +78,13 @@ static void airmode(const struct asked *asked, struct given *given) {
     run_floored(asked, given, footspandle_quad_mix_airmode);
 }
 
-static void run_rotor_out(footspandle_quad *lent_state, size_t failed, const struct asked *asked,
-                          struct given *given) {
-    struct lent torque;
-    footspandle_quad_mix_rotor_out(lent_state, failed, lend(&torque, asked->x, 12, 4), asked->x[3],
+static void run_rotor_out(footspandle_quad *lent_state, size_t failed, const struct asked *asked) {
+    footspandle_quad_mix_rotor_out(lent_state, failed, seal(&torque, asked->x, 12, 4), asked->x[3],
                                    asked->x[4]);
-    must(&given->fault, is_untouched(&torque), "it wrote to the torque");
 }
 
 static void rotor_out(const struct asked *asked, struct given *given) {
-    run_rotor_out(state, asked->number, asked, given);
+    run_rotor_out(state, asked->number, asked);
     read_state(given);
 }
 
@@ -98,7 +93,7 @@ static void no_rotor_out(const struct asked *asked, struct given *given) {
     struct lent copy;
     footspandle_quad *other = lend(&copy, state, sizeof *other, 4);
     rotor_out(asked, given);
-    run_rotor_out(other, (size_t)1 << 32, asked, given);
+    run_rotor_out(other, (size_t)1 << 32, asked);
     must(&given->fault, memcmp(other, state, sizeof *other) == 0, "it is another with rotor 2^32");
     must(&given->fault, is_kept(&copy), "it wrote outside of the state with rotor 2^32");
 }
@@ -106,10 +101,10 @@ static void no_rotor_out(const struct asked *asked, struct given *given) {
 /* ---- the torque that motors give ---- */
 
 static void torque_signs(const struct asked *asked, struct given *given) {
-    struct lent motors, sums;
+    static struct sealed motors = SEALED("it wrote to the motors");
+    struct lent sums;
     float *written = lend(&sums, NULL, 12, 4);
-    footspandle_motors_to_torque_signs(lend(&motors, asked->x, 16, 4), written);
-    must(&given->fault, is_untouched(&motors), "it wrote to the motors");
+    footspandle_motors_to_torque_signs(seal(&motors, asked->x, 16, 4), written);
     must(&given->fault, is_kept(&sums), "it wrote outside of the sums");
     give_floats(given, written, 3);
 }

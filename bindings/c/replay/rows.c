@@ -6,6 +6,10 @@
 #include "footspandle.h"
 #include "kinds.h"
 #include "lent.h"
+#include "sealed.h"
+
+static struct sealed rows = SEALED("it wrote to the rows");
+static struct sealed wrench = SEALED("it wrote to the wrench");
 
 static void clamp01(const struct asked *asked, struct given *given) {
     float x = footspandle_clamp01(asked->x[0]);
@@ -23,28 +27,32 @@ struct lengths refused_lengths(size_t outputs, size_t which) {
     return each[which];
 }
 
-/* Rows of such lengths have to be refused, and every output to stay byte for byte. */
-static void must_refuse(const float *asked, struct lengths lengths, struct given *given) {
-    struct lent rows, wrench, out;
-    uint32_t number = footspandle_mixer_mix(
-        lend(&rows, NULL, 4 * lengths.rows, 4), lengths.rows, lend(&wrench, asked, 16, 4),
-        lend(&out, NULL, 4 * lengths.outputs, 4), lengths.outputs);
+/* A call with rows of such lengths, which has to be refused. */
+static void run_refused(const float *asked, struct lengths lengths, float *out,
+                        struct given *given) {
+    uint32_t number = footspandle_mixer_mix(seal(&rows, NULL, 4 * lengths.rows, 4), lengths.rows,
+                                            seal(&wrench, asked, 16, 4), out, lengths.outputs);
     must(&given->fault, number == FOOTSPANDLE_BAD_ROWS, "%u floats for %u outputs: it answered %u",
          (unsigned)lengths.rows, (unsigned)lengths.outputs, (unsigned)number);
-    must(&given->fault, is_untouched(&rows) && is_untouched(&wrench) && is_untouched(&out),
-         "a refused call wrote");
+}
+
+/* Every output has to stay byte for byte, and then not to be written at all. */
+static void must_refuse(const float *asked, struct lengths lengths, struct given *given) {
+    static struct sealed sealed = SEALED("a refused call wrote to the outputs");
+    struct lent out;
+    run_refused(asked, lengths, lend(&out, NULL, 4 * lengths.outputs, 4), given);
+    must(&given->fault, is_untouched(&out), "a refused call changed the outputs");
+    run_refused(asked, lengths, seal(&sealed, NULL, 4 * lengths.outputs, 4), given);
 }
 
 /* The inputs are a wrench and rows, four floats for each answer. */
 static void mix_rows(const struct asked *asked, struct given *given) {
     size_t outputs = asked->answers, i;
-    struct lent rows, wrench, out;
+    struct lent out;
     float *written = lend(&out, NULL, 4 * outputs, 4);
-    uint32_t number = footspandle_mixer_mix(lend(&rows, asked->x + 4, 16 * outputs, 4), 4 * outputs,
-                                            lend(&wrench, asked->x, 16, 4), written, outputs);
+    uint32_t number = footspandle_mixer_mix(seal(&rows, asked->x + 4, 16 * outputs, 4), 4 * outputs,
+                                            seal(&wrench, asked->x, 16, 4), written, outputs);
     must(&given->fault, number == FOOTSPANDLE_ACCEPTED, "it answered %u", (unsigned)number);
-    must(&given->fault, is_untouched(&rows) && is_untouched(&wrench),
-         "it wrote to what it may read");
     must(&given->fault, is_kept(&out), "it wrote outside of the outputs");
     give_floats(given, written, outputs);
     for (i = 0; i < REFUSED_LENGTHS; i++) {
@@ -60,16 +68,15 @@ typedef void frame_mix(const footspandle_wrench *, float *);
 static void mix_frame(const struct asked *asked, struct given *given, table_function *table,
                       frame_mix *mix) {
     size_t outputs = asked->answers;
-    struct lent wrench, rows, out, other;
-    footspandle_wrench *w = lend(&wrench, asked->x, sizeof *w, 4);
-    float *by_rows = lend(&rows, NULL, 16 * outputs, 4);
+    struct lent tabled, out, other;
+    const footspandle_wrench *w = seal(&wrench, asked->x, sizeof *w, 4);
+    float *by_rows = lend(&tabled, NULL, 16 * outputs, 4);
     float *written = lend(&out, NULL, 4 * outputs, 4);
     float *compared = lend(&other, NULL, 4 * outputs, 4);
     mix(w, written);
     table(by_rows);
-    footspandle_mixer_mix(by_rows, 4 * outputs, w, compared, outputs);
-    must(&given->fault, is_untouched(&wrench), "it wrote to the wrench");
-    must(&given->fault, is_kept(&rows), "the table wrote outside of its rows");
+    footspandle_mixer_mix(seal(&rows, by_rows, 16 * outputs, 4), 4 * outputs, w, compared, outputs);
+    must(&given->fault, is_kept(&tabled), "the table wrote outside of its rows");
     must(&given->fault, is_kept(&out) && is_kept(&other), "it wrote outside of the outputs");
     must(&given->fault, memcmp(written, compared, 4 * outputs) == 0, "by its rows it is another");
     give_floats(given, written, outputs);

@@ -8,6 +8,7 @@
 #include "footspandle.h"
 #include "lent.h"
 #include "list.h"
+#include "sealed.h"
 
 #define HEAD 72          /* bytes of the words */
 #define STATE 20         /* bytes of a state */
@@ -60,12 +61,12 @@ static void must_tell(struct fault *fault, const char *which, uint32_t told, uin
 /* ---- the check: what a run is told, but that nothing is too short for it ---- */
 
 static void compare_check(const struct record *r, struct fault *fault) {
-    struct lent sheet, entry;
+    static struct sealed sheet = SEALED("sheet_check wrote to the sheet");
+    struct lent entry;
     uint32_t told = r->number == FOOTSPANDLE_SHORT_OUTPUT ? FOOTSPANDLE_ACCEPTED : r->number;
-    uint32_t number = footspandle_sheet_check(lend(&sheet, r->sheet, r->length, 1), r->length,
+    uint32_t number = footspandle_sheet_check(seal(&sheet, r->sheet, r->length, 1), r->length,
                                               lend(&entry, NULL, 4, 4));
     must_tell(fault, "sheet_check", told, r->entry, number, word_at(lent_bytes(&entry)));
-    must(fault, is_untouched(&sheet), "sheet_check wrote to the sheet");
     must(fault, is_kept(&entry), "sheet_check wrote outside of the entry number");
 }
 
@@ -80,16 +81,16 @@ struct part {
 static const struct part none = {0, 0};
 
 static void must_be_body(const struct record *r, size_t i, struct part told, struct fault *fault) {
-    struct lent sheet, at;
+    static struct sealed sheet = SEALED("sheet_body wrote to the sheet");
+    struct lent at;
     size_t *stored = lend(&at, NULL, sizeof *stored, 8);
     size_t length, begins;
-    length = footspandle_sheet_body(lend(&sheet, r->sheet, r->length, 1), r->length, i, stored);
+    length = footspandle_sheet_body(seal(&sheet, r->sheet, r->length, 1), r->length, i, stored);
     memcpy(&begins, stored, sizeof begins);
     must(fault, length == told.length && begins == told.at,
          "the body of %lu is %lu bytes at %lu, ours %lu at %lu", (unsigned long)i,
          (unsigned long)told.length, (unsigned long)told.at, (unsigned long)length,
          (unsigned long)begins);
-    must(fault, is_untouched(&sheet), "sheet_body wrote to the sheet");
     must(fault, is_kept(&at), "sheet_body wrote outside of the place");
 }
 
@@ -127,27 +128,35 @@ static void compare_bodies(const struct record *r, struct fault *fault) {
 
 /* ---- the run ---- */
 
-/* What a run is lent, and what it answers. */
+/* What a run may write to. */
 struct ran {
-    struct lent sheet, state, out, entry;
-    uint32_t number;
-    uint32_t stored;
+    struct lent state, out;
 };
 
-/* Runs the sheet from a state. Before, byte j of the output is j modulo 251. */
-static void run(const struct record *r, const void *from, struct ran *ran, struct fault *fault) {
-    uint8_t filled[MOST_OUTPUT];
+/* The output before a run: byte j is j modulo 251. */
+static const uint8_t *filled(void) {
+    static uint8_t bytes[MOST_OUTPUT];
     size_t j;
-    for (j = 0; j < r->room; j++) {
-        filled[j] = (uint8_t)(j % 251);
+    for (j = 0; j < MOST_OUTPUT; j++) {
+        bytes[j] = (uint8_t)(j % 251);
     }
-    ran->number = footspandle_sheet_run(
-        lend(&ran->sheet, r->sheet, r->length, 1), r->length, lend(&ran->state, from, STATE, 4),
-        lend(&ran->out, filled, r->room, 1), r->room, lend(&ran->entry, NULL, 4, 4));
-    ran->stored = word_at(lent_bytes(&ran->entry));
-    must_tell(fault, "sheet_run", r->number, r->entry, ran->number, ran->stored);
-    must(fault, is_untouched(&ran->sheet), "sheet_run wrote to the sheet");
-    must(fault, is_kept(&ran->entry), "sheet_run wrote outside of the entry number");
+    return bytes;
+}
+
+/* Runs the sheet on a state and an output that are lent, or sealed. */
+static void run_on(const struct record *r, footspandle_quad *state, uint8_t *out,
+                   struct fault *fault) {
+    static struct sealed sheet = SEALED("sheet_run wrote to the sheet");
+    struct lent entry;
+    uint32_t number = footspandle_sheet_run(seal(&sheet, r->sheet, r->length, 1), r->length, state,
+                                            out, r->room, lend(&entry, NULL, 4, 4));
+    must_tell(fault, "sheet_run", r->number, r->entry, number, word_at(lent_bytes(&entry)));
+    must(fault, is_kept(&entry), "sheet_run wrote outside of the entry number");
+}
+
+/* Runs the sheet from a state. */
+static void run(const struct record *r, const void *from, struct ran *ran, struct fault *fault) {
+    run_on(r, lend(&ran->state, from, STATE, 4), lend(&ran->out, filled(), r->room, 1), fault);
     must(fault, is_kept(&ran->state), "sheet_run wrote outside of the state");
     must(fault, is_kept(&ran->out), "sheet_run wrote outside of the output");
 }
@@ -176,35 +185,50 @@ static const uint32_t odd_nans[5] = {0x7fc12345, 0xff812345, 0x7f800001, 0xfffff
 
 /*
  * After a refusal the state's bytes and the output's are those that were lent, the bits of a NaN
- * too, which the list does not tell.
+ * too, which the list does not tell. They are not written at all, not even as they were.
  */
 static void compare_refused(const struct record *r, struct ran *ran, struct fault *fault) {
+    static struct sealed state = SEALED("a refused run wrote to the state");
+    static struct sealed out = SEALED("a refused run wrote to the output");
     must(fault, is_untouched(&ran->state), "a refused run changed the state");
     must(fault, is_untouched(&ran->out), "a refused run changed the output");
     run(r, odd_nans, ran, fault);
     must(fault, is_untouched(&ran->state), "a refused run changed the bits of a NaN in the state");
     must(fault, is_untouched(&ran->out), "a refused run changed the output");
+    run_on(r, seal(&state, odd_nans, STATE, 4), seal(&out, filled(), r->room, 1), fault);
 }
 
 /* ---- the list ---- */
 
-static void compare(const uint8_t *words, size_t number, struct tally *tally) {
-    static struct ran ran;
-    struct record r = read_record(words);
+/* A record, and what is wrong with it. */
+struct compared {
+    struct record record;
     struct fault fault;
-    fault.words[0] = '\0';
-    if (r.length > LENT_ROOM || r.room > MOST_OUTPUT) {
-        must(&fault, 0, "there is no room for it here");
-    } else {
-        compare_check(&r, &fault);
-        compare_bodies(&r, &fault);
-        compare_run(&r, &ran, &fault);
-        if (r.number != FOOTSPANDLE_ACCEPTED) {
-            compare_refused(&r, &ran, &fault);
-        }
+};
+
+static void run_all(void *of) {
+    static struct ran ran;
+    struct compared *c = of;
+    compare_check(&c->record, &c->fault);
+    compare_bodies(&c->record, &c->fault);
+    compare_run(&c->record, &ran, &c->fault);
+    if (c->record.number != FOOTSPANDLE_ACCEPTED) {
+        compare_refused(&c->record, &ran, &c->fault);
     }
-    if (fault.words[0] != '\0') {
-        count_difference(tally, "record %u: %s", (unsigned)number, fault.words);
+}
+
+static void compare(const uint8_t *words, size_t number, struct tally *tally) {
+    struct compared c;
+    c.record = read_record(words);
+    c.fault.words[0] = '\0';
+    if (c.record.length > LENT_ROOM || c.record.room > MOST_OUTPUT) {
+        must(&c.fault, 0, "there is no room for it here");
+    } else {
+        const char *broken = broken_seal(run_all, &c);
+        must(&c.fault, broken == NULL, "%s", broken);
+    }
+    if (c.fault.words[0] != '\0') {
+        count_difference(tally, "record %u: %s", (unsigned)number, c.fault.words);
     }
     tally->compared++;
 }

@@ -12,11 +12,17 @@
 
 #include "footspandle.h"
 
-/* ---- slips; wrong/try.sh finds their names in the calls of these three ---- */
+/* ---- slips; wrong/try.sh finds their names in the calls of slip, reads and beside ---- */
+
+/* Whether the slip is the one with a name and then an end. */
+static int slip_of(const char *name, const char *end) {
+    const char *named = getenv("FOOTSPANDLE_SLIP");
+    size_t length = strlen(name);
+    return named != NULL && strncmp(named, name, length) == 0 && strcmp(named + length, end) == 0;
+}
 
 static int slip(const char *name) {
-    const char *named = getenv("FOOTSPANDLE_SLIP");
-    return named != NULL && strcmp(named, name) == 0;
+    return slip_of(name, "");
 }
 
 /* Turns a bit of a byte, also of one that is not lent, or only to be read. */
@@ -24,24 +30,28 @@ static void turn(const void *place, ptrdiff_t from) {
     *((uint8_t *)(uintptr_t)place + from) ^= 1;
 }
 
-/* A slip that writes to what is only lent to be read. */
+/* Writes the very byte that stands there. Without volatile the compiler may leave that out. */
+static void write_back(const void *place) {
+    volatile uint8_t *byte = (uint8_t *)(uintptr_t)place;
+    *byte = *byte;
+}
+
+/* Two slips, 'NAME' and 'NAME, as it is', write to what is only lent to be read. */
 static void reads(const char *name, const void *place) {
     if (slip(name)) {
         turn(place, 0);
+    }
+    if (slip_of(name, ", as it is")) {
+        write_back(place);
     }
 }
 
 /* Two slips: 'NAME, before' and 'NAME, past' write a byte beside what is lent to be written. */
 static void beside(const char *name, const void *place, size_t length) {
-    const char *named = getenv("FOOTSPANDLE_SLIP");
-    size_t end = strlen(name);
-    if (named == NULL || strncmp(named, name, end) != 0) {
-        return;
-    }
-    if (strcmp(named + end, ", before") == 0) {
+    if (slip_of(name, ", before")) {
         turn(place, -1);
     }
-    if (strcmp(named + end, ", past") == 0) {
+    if (slip_of(name, ", past")) {
         turn(place, (ptrdiff_t)length);
     }
 }
@@ -212,6 +222,10 @@ uint32_t wrong_mixer_mix(const float *rows, size_t rows_length, const footspandl
     if (slip("mixer_mix: clears the outputs of a refusal") && number != 0) {
         memset(out, 0, 4 * out_length);
     }
+    if (slip("mixer_mix: writes the outputs of a refusal as they are") && number != 0 &&
+        out_length > 0) {
+        write_back(out);
+    }
     reads("mixer_mix: writes to the rows", rows);
     reads("mixer_mix: writes to the wrench", w);
     beside("mixer_mix: the outputs", out, 4 * out_length);
@@ -240,6 +254,13 @@ uint32_t wrong_mixer_mix_thrust_floor(const float *rows, size_t rows_length,
     }
     if (slip("mixer_mix_thrust_floor: a delta left in the outputs of a refusal") && number != 0) {
         turn(out, 0);
+    }
+    if (slip("mixer_mix_thrust_floor: writes the scale of a refusal as it is") && number != 0) {
+        write_back(scale);
+    }
+    if (slip("mixer_mix_thrust_floor: writes the outputs of a refusal as they are") &&
+        number != 0 && out_length > 0) {
+        write_back(out);
     }
     reads("mixer_mix_thrust_floor: writes to the rows", rows);
     reads("mixer_mix_thrust_floor: writes to the wrench", w);
@@ -347,7 +368,7 @@ static void change_nan(float *x, uint32_t bits) {
 }
 
 /* What a run does wrong where it is refused. */
-static void run_refused(footspandle_quad *state, uint8_t *out, size_t out_length) {
+static void run_refused(uint32_t number, footspandle_quad *state, uint8_t *out, size_t out_length) {
     if (slip("sheet_run: a refusal makes a NaN of the state quiet")) {
         change_nan(&state->last_motors[2], 0x00400000);
     }
@@ -362,6 +383,23 @@ static void run_refused(footspandle_quad *state, uint8_t *out, size_t out_length
     }
     if (slip("sheet_run: a refusal touches the output") && out_length > 0) {
         turn(out, (ptrdiff_t)(out_length - 1));
+    }
+    if (slip("sheet_run: a refusal writes the state as it is")) {
+        write_back(state);
+    }
+    if (slip("sheet_run: a refusal writes the scale of the state as it is")) {
+        write_back(&state->last_torque_scale);
+    }
+    if (slip("sheet_run: a short output is refused, and the state written as it is") &&
+        number == FOOTSPANDLE_SHORT_OUTPUT) {
+        write_back(state);
+    }
+    if (slip("sheet_run: a refusal writes the output as it is") && out_length > 0) {
+        write_back(out);
+    }
+    if (slip("sheet_run: a refusal writes the last byte of the output as it is") &&
+        out_length > 0) {
+        write_back(out + out_length - 1);
     }
 }
 
@@ -384,7 +422,7 @@ uint32_t wrong_sheet_run(const uint8_t *sheet, size_t sheet_length, footspandle_
         memset(out + answers, 0, out_length - answers);
     }
     if (number != 0) {
-        run_refused(state, out, out_length);
+        run_refused(number, state, out, out_length);
     }
     reads("sheet_run: writes to the sheet", sheet);
     beside("sheet_run: the state", state, sizeof *state);

@@ -94,8 +94,8 @@ sed 's/footspandle_\(.*\)/#define & wrong_\1/' "$declared" >"$work/wrong.h"
 compile "$work/functions.o" -c "$here/wrong/functions.c"
 compile "$work/stand_in" -include "$work/wrong.h" "${replay[@]}" "$work/functions.o" "$archive"
 try_right "the stand-ins" "$work/stand_in" "$root"
-mapfile -t slips < <(sed -n 's/.*\(slip\|reads\)("\([^"]*\)".*/\2/p; s/.*beside("\([^"]*\)".*/\1, before\n\1, past/p' \
-    "$here/wrong/functions.c")
+mapfile -t slips < <(sed -n 's/.*slip("\([^"]*\)".*/\1/p; s/.*reads("\([^"]*\)".*/\1\n\1, as it is/p
+    s/.*beside("\([^"]*\)".*/\1, before\n\1, past/p' "$here/wrong/functions.c")
 for slip in "${slips[@]}"; do
     FOOTSPANDLE_SLIP=$slip try "$slip" "$work/stand_in" "$root"
 done
