@@ -45,6 +45,21 @@ void count_difference(struct tally *tally, const char *format, ...) {
     printf("\n");
 }
 
+size_t read_list(uint8_t *room, const char *root, const char *path) {
+    char name[4096];
+    size_t length;
+    FILE *file;
+    snprintf(name, sizeof name, "%s/%s", root, path);
+    file = fopen(name, "rb");
+    if (file == NULL) {
+        perror(name);
+        return 0;
+    }
+    length = fread(room, 1, LIST_ROOM, file);
+    fclose(file);
+    return length;
+}
+
 void must_be_whole(struct tally *tally, const uint8_t *list, size_t length, size_t at,
                    size_t records) {
     if (length < 4 || length >= LIST_ROOM || at != length || records != word_at(list)) {

@@ -45,6 +45,12 @@ void count_difference(struct tally *tally, const char *format, ...);
 #define LIST_ROOM 1048576
 
 /*
+ * Reads a list into that room, from its path under the root, and answers its length; of a file that
+ * cannot be read, 0.
+ */
+size_t read_list(uint8_t *room, const char *root, const char *path);
+
+/*
  * Counts a difference unless the records end where the list does and are as many as its first word
  * says. A list that fills the room may have more to come.
  */

@@ -38,26 +38,10 @@ static const struct list lists[] = {
 
 static uint8_t room[LIST_ROOM];
 
-/* Reads a list and answers its length; of a file that cannot be read, 0. */
-static size_t read_list(const char *root, const char *path) {
-    char name[4096];
-    size_t length;
-    FILE *file;
-    snprintf(name, sizeof name, "%s/%s", root, path);
-    file = fopen(name, "rb");
-    if (file == NULL) {
-        perror(name);
-        return 0;
-    }
-    length = fread(room, 1, sizeof room, file);
-    fclose(file);
-    return length;
-}
-
 static struct tally replay(const char *root, const struct list *list) {
     struct tally tally = {NULL, 0, 0, 0, SHOWN};
     tally.list = list->path;
-    list->replay(room, read_list(root, list->path), &tally);
+    list->replay(room, read_list(room, root, list->path), &tally);
     printf("%s: %u %s compared through the archive, ", list->path, (unsigned)tally.compared,
            list->what);
     if (tally.not_exported > 0) {

@@ -43,20 +43,6 @@ static void say(const char *what) {
     noticed_before = noticed;
 }
 
-static int read_list(const char *root, const char *path) {
-    char name[4096];
-    FILE *file;
-    snprintf(name, sizeof name, "%s/%s", root, path);
-    file = fopen(name, "rb");
-    if (file == NULL) {
-        perror(name);
-        return 0;
-    }
-    length = fread(list, 1, sizeof list, file);
-    fclose(file);
-    return 1;
-}
-
 /* ---- the list of answers ---- */
 
 static size_t end_of(size_t at) {
@@ -199,7 +185,8 @@ int main(int argc, char **argv) {
         return 2;
     }
     for (i = 0; i < sizeof lists / sizeof lists[0]; i++) {
-        if (!read_list(argv[1], lists[i].path)) {
+        length = read_list(list, argv[1], lists[i].path);
+        if (length == 0) {
             return 2;
         }
         if (differences(list, length, lists[i].replay) != 0) {
