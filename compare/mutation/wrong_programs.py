@@ -37,7 +37,8 @@ def unit_at(code, crate, file, old):
                     if f.body and f.body[0].start <= place + len(old) and place <= f.body[-1].end:
                         return f.called
                 for f in source.functions:
-                    if f.contract in text and text.find(f.contract) <= place < text.find(f.contract) + len(f.contract):
+                    start = text.find(f.contract) if f.contract else -1
+                    if start >= 0 and start < place + len(old) and place < start + len(f.contract):
                         return f.called
                 for name, (_, _, value) in source.constants.items():
                     if value[0].start <= place + len(old) and place <= value[-1].end:
