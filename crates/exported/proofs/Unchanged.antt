@@ -1,5 +1,6 @@
 -- What a refusal leaves as it was. Where `footspandle_sheet_run` answers a number other than 0: the state and the
--- output. Where `footspandle_mixer_mix_thrust_floor` does: the outputs, and what is lent for the scale. Assumes nothing.
+-- output. Where `footspandle_mixer_mix_thrust_floor` does: the outputs, and what is lent for the scale.
+-- Assumes nothing.
 use mathlib.Core.Path.{_≡_, refl, sym, subst, ap, _∙_}
 use mathlib.Core.Bool.{not}
 use mathlib.Core.List.{List}

@@ -1,8 +1,8 @@
 -- A function by value, lent: where `g(s: T, ..) -> T` meets its contract, the function `f(s: &mut T, ..)` that calls it
 -- and stores what it gives meets the same contract, said of the struct that stands there afterwards (`lends`). So does
--- an `f(s: &mut T)` that stores what a `g() -> T` gives, and does not read what stood there (`makes`). T is any declared
--- type, and what is passed on is any number of plain values and shared references (`PassedOn`): so a function that is lent
--- a struct costs its proof file the words that name the two functions.
+-- an `f(s: &mut T)` that stores what a `g() -> T` gives, and does not read what stood there (`makes`). T is any
+-- declared type, and what is passed on is any number of plain values and shared references (`PassedOn`): so a function
+-- that is lent a struct costs its proof file the words that name the two functions.
 -- Assumes nothing.
 use mathlib.Core.Path.{_≡_, refl, sym, subst, ap, _∙_}
 use Prim.Native.Nat.{ℕ, suc}

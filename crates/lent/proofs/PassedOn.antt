@@ -115,7 +115,8 @@ module _ {n : ℕ} (κs : Lfts (suc n)) where
   in-a-row [] a = refl
   in-a-row (p ∷ ps) a = ap (λ (us : List Val). laws (κs .1) p .val (a .0) ∷ us) (in-a-row ps (a .1))
 
-  is-typed : (p : PassedOn n) (v : Val) → TypedBy (outside (κs .1) p .row .mir) (v ∷ []) → T (hasTy (type-of p) v) × WT v
+  is-typed : (p : PassedOn n) (v : Val) → TypedBy (outside (κs .1) p .row .mir) (v ∷ [])
+      → T (hasTy (type-of p) v) × WT v
   is-typed (value F l c) v t = one-typed (F .row .mir) v t
   is-typed (shared j ok R one) v t = t .0
 
@@ -145,7 +146,8 @@ module _ {n : ℕ} (κs : Lfts (suc n)) where
 
   pub across-owns : {M : Type 1} (𝓤 : URA M) (H : Heap 𝓤) (A : Atoms 𝓤) (ps : List (PassedOn n)) (a : Denots (rows ps))
       (vss : Valss (rows ps))
-      → ent 𝓤 (sem 𝓤 H A (owns (rows ps) a vss)) (sem 𝓤 H A (owns (rows-inside ps) (across ps a) (across-values ps vss)))
+      → ent 𝓤 (sem 𝓤 H A (owns (rows ps) a vss))
+      (sem 𝓤 H A (owns (rows-inside ps) (across ps a) (across-values ps vss)))
   across-owns 𝓤 H A [] a vss = id⊢ 𝓤 _
   across-owns 𝓤 H A (p ∷ ps) a vss =
       mono∗ 𝓤 (cross-owns (κs .1) 𝓤 H A p (a .0) (vss .0)) (across-owns 𝓤 H A ps (a .1) (vss .1))

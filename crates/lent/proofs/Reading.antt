@@ -111,7 +111,8 @@ module _ (T : Declared) (L : LL.Laws T) (cs : LL.Copyables (T .parts)) where
       {Γ : List (Item 𝓤)} where
     copies-shared : (b o : ℕ) (h : T .D) {j lⱼ : ℕ} → spotOf 𝓤 H E p ≡ (π, lₚ, zero)
         → spotOf 𝓤 H E j ≡ (State T, lⱼ, zero)
-        → Seq (Go {0}) W (owned T L h ∷ ‵ (flft κ q) ∷ holds T L (State T) lⱼ (val T L h) ∷ holds T L π lₚ (vptr b o) ∷ Γ)
+        → Seq (Go {0}) W (owned T L h ∷ ‵ (flft κ q) ∷ holds T L (State T) lⱼ (val T L h)
+        ∷ holds T L π lₚ (vptr b o) ∷ Γ)
         (runs C Λ E rest (atRet E Kf))
         → Seq (Go {0}) W (‵ (fshr-bor κ (λ s. partAt (row T) s h b o)) ∷ ‵ (flft κ q) ∷ room T L (State T) lⱼ
         ∷ holds T L π lₚ (vptr b o) ∷ Γ)
@@ -300,7 +301,8 @@ module _ (T : Declared) (L : LL.Laws T) (cs : LL.Copyables (T .parts)) (k : ℕ)
         use1 W (raw (c₁ .pre y)) goes $
         calls-at ! fm c₁ met y (subst (Opds (Go {0}) W _ _ _) are
         (and-then ! (load ! (from ! (stop !)) (look ! 2 refl)) (no-more !)))
-        (λ v. use1 W (later (some (λ (z : List Float). given (R (now x) z) (‵ (Z .own z (v ∷ [])) ⊛ ‵ ftrue)))) (gives v) $
+        (λ v. use1 W (later (some (λ (z : List Float). given (R (now x) z) (‵ (Z .own z (v ∷ [])) ⊛ ‵ ftrue))))
+        (gives v) $
         await ! tt $ pick ! (λ z. learn ! (λ e. split ! $
         peeks ! Z (Is Z) (shows 𝓤 H A Z) z (v ∷ []) (λ is.
         land ! (from ! (stop !)) (init ! 5 refl (l .lawful 𝓤 H A W .typed z (v ∷ []) is .0)) $

@@ -205,7 +205,8 @@ module _ (T : Declared) (L : LL.Laws T) where
     pub walks : (b o : ℕ) (h : T .D) (n : ℕ) (τs : List Ty) (vs : Values τs) → Typed τs vs → FmC 𝓤 H (W .laws) C
         → (c : Contract 𝓤) → Triple 𝓤 (C f) c → (x : c .Ghost) → val h ∷ values τs vs ≡ c .args x
         → (rest : SProp 𝓤) → ent 𝓤 (sep 𝓤 (sem 𝓤 H A (row T .own h (val h ∷ []))) rest) (c .pre x)
-        → (Gives : T .D → Type 0) (back : SProp 𝓤) → HandsBack 𝓤 H A (row T) c x Gives back → Ends 𝓤 H A κ q γ b o Gives back Kf
+        → (Gives : T .D → Type 0) (back : SProp 𝓤) → HandsBack 𝓤 H A (row T) c x Gives back
+        → Ends 𝓤 H A κ q γ b o Gives back Kf
         → ent 𝓤 (sep 𝓤 (A .obs γ (row T .coded .code h)) (sep 𝓤 (A .bor κ (Held (mem (row T)) b o γ))
         (sep 𝓤 (A .lft κ q) rest))) (WpFn 𝓤 H C Λ (lent T f n τs) (vptr b o ∷ values τs vs) Kf)
     walks b o h n τs vs typed fm c met x are rest goes Gives back gives ends =

@@ -123,7 +123,8 @@ module _ {M : Type 1} {𝓤 : URA M} where
 module _ {M : Type 1} {𝓤 : URA M} {H : Heap 𝓤} {A : Atoms 𝓤} {W : Given 𝓤 H A} {κ : Lft} {q : Share} {γ : GName}
     {d e f : Item 𝓤} {π τ₀ τ₁ τ₃ τ₄ τ₅ τ₆ τ₇ τ₈ τ₉ τ₁₀ : Ty} {l₀ l₁ l₂ l₃ l₄ l₅ l₆ l₇ l₈ l₉ l₁₀ : ℕ} where
   -- the locals are given back, and what is left ends the function
-  leaves : (b o : ℕ) (h : QuadMixer) {v₀ v₂ v₆ v₁₀ : Val} {P : SProp 𝓤} → ent 𝓤 (⋆ 𝓤 H A (shut-at κ q γ b o h (d ∷ e ∷ f ∷ []))) P
+  leaves : (b o : ℕ) (h : QuadMixer) {v₀ v₂ v₆ v₁₀ : Val} {P : SProp 𝓤}
+      → ent 𝓤 (⋆ 𝓤 H A (shut-at κ q γ b o h (d ∷ e ∷ f ∷ []))) P
       → Seq (Go {0}) W (shut-at κ q γ b o h (here π l₂ v₂ ∷ d ∷ e ∷ f ∷ here τ₁₀ l₁₀ v₁₀ ∷ here τ₆ l₆ v₆
       ∷ here τ₀ l₀ v₀ ∷ empty τ₁ l₁ ∷ empty τ₃ l₃ ∷ empty τ₄ l₄ ∷ empty τ₅ l₅ ∷ empty τ₇ l₇ ∷ empty τ₈ l₈ ∷ empty τ₉ l₉
       ∷ dies τ₀ l₀ ∷ dies τ₁ l₁ ∷ dies π l₂ ∷ dies τ₃ l₃ ∷ dies τ₄ l₄ ∷ dies τ₅ l₅ ∷ dies τ₆ l₆ ∷ dies τ₇ l₇
@@ -302,10 +303,12 @@ module _ {M : Type 1} (𝓤 : URA M) (H : Heap 𝓤) (A : Atoms 𝓤) (W : Given
           ∷ 29 ∷ 27 ∷ 25 ∷ 24 ∷ 22 ∷ 20 ∷ 19 ∷ 17 ∷ 15 ∷ 13 ∷ 11 ∷ []) $
           -- [the open borrow of the state, four; its place; the entry number; the output; the tokens; room for the
           -- test; what was run; room for the number; the other locals; that each dies]
-          walks-on 𝓤 H _ _ _ _ _ _ _ _ l₀ l₁ l₂ l₃ l₄ l₅ l₆ l₇ l₈ l₉ l₁₀ C Λ Post (x .ptr .0) (x .ptr .1) (now x) r is-before
+          walks-on 𝓤 H _ _ _ _ _ _ _ _ l₀ l₁ l₂ l₃ l₄ l₅ l₆ l₇ l₈ l₉ l₁₀ C Λ Post (x .ptr .0) (x .ptr .1) (now x) r
+          is-before
           (subst (Is O.the-row r) (LL.tells O.the-type O′.the-laws r (v ∷ []) was) was)
           (λ is-refused. exits (now x) (r .number) (ws .1 .1 .1 .0) (ws .1 .1 .0) len (fits r v was)
-          (run-unwritten (now sheet) (now x) (now out) (r .number) (ws .1 .1 .1 .0) (r .state) (ws .1 .1 .0) e is-refused))
+          (run-unwritten (now sheet) (now x) (now out) (r .number) (ws .1 .1 .1 .0) (r .state) (ws .1 .1 .0) e
+          is-refused))
           (exits (r .state) (r .number) (ws .1 .1 .1 .0) (ws .1 .1 .0) len (fits r v was) e))))))))))))))))))))
 
   run-walks : (C : Calls 𝓤 H) (Λ : Loops 𝓤 H) → FmC 𝓤 H (W .laws) C → Triple 𝓤 (C g-def.name) ByValue

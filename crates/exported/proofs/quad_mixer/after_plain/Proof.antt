@@ -1,5 +1,5 @@
--- `exported::quad_mixer::after_plain` meets its contract. It is in a file so that a wrong one is refused at its place.
--- Assumes nothing.
+-- `exported::quad_mixer::after_plain` meets its contract. It is in a file so that a wrong one is refused at its
+-- place. Assumes nothing.
 use borrow.Author.Needs.{needs}
 use Rattle.exported.proofs.quad_mixer.after_plain.Statement.{statement}
 use Rattle.exported.proofs.quad_mixer.after_plain.Tie as tie

@@ -1,5 +1,5 @@
--- `exported::quad_mixer::after_priority` meets its contract. It is in a file so that a wrong one is refused at its place.
--- Assumes nothing.
+-- `exported::quad_mixer::after_priority` meets its contract. It is in a file so that a wrong one is refused at its
+-- place. Assumes nothing.
 use borrow.Author.Needs.{needs}
 use Rattle.exported.proofs.quad_mixer.after_priority.Statement.{statement}
 use Rattle.exported.proofs.quad_mixer.after_priority.Tie as tie
