@@ -5,7 +5,7 @@ use Rattle.quad.proofs.QuadMixer.Laws as Q′
 use Rattle.quad.proofs.QuadMixer.last_motors as g
 use Rattle.quad.proofs.QuadMixer.last_motors.Symbol as g-def
 use Rattle.quad.proofs.QuadMixer.last_motors.Met as g-thm
-use Rattle.lent.proofs.Reading.{copies}
+use Rattle.lent.proofs.Copying.{copies}
 use Rattle.exported.proofs.quad_mixer.footspandle_quad_last_motors.Key as f-key
 use Rattle.exported.proofs.quad_mixer.footspandle_quad_last_motors as f
 use Rattle.exported.proofs.quad_mixer.footspandle_quad_last_motors.Statement as stated
