@@ -43,12 +43,11 @@ use denote.Triple.Call.{calls-at}
 use denote.Triple.Clauses.{Clauses, Ended, AtExit, atExit, closing}
 use denote.Triple.Entry.{onEntry}
 use denote.Triple.Spec.{Meets, tripleOf}
-use denote.Triple.Statement.{Contract, Triple}
 use denote.Triple.Table.{entered, cited}
 use denote.Triple.Walked.{Stays, stay-dropped, stay-ref, walkOf, goes-dropped, goes-ref, ends-at, walked, walk-meets}
-use Rattle.lent.proofs.Calling.{HandsBack, hands-back}
+use Rattle.lent.proofs.Calling.{Called}
 use Rattle.lent.proofs.Walk.{State, val}
-use Rattle.lent.proofs.Reading.{Shared, taken, kept, read, copies-shared, callee, to-callee, asks}
+use Rattle.lent.proofs.Reading.{Shared, read, copies-shared, called}
 
 -- ---- the code
 
@@ -139,13 +138,12 @@ module _ (T : Declared) (L : LL.Laws T) (cs : LL.Copyables (T .parts)) (k : ℕ)
         move ! (1 ∷ 0 ∷ []) $ done !
 
     walk-stored : {f : Name} (C : Calls 𝓤 H) (Λ : Loops 𝓤 H) → FmC 𝓤 H (W .laws) C
-        → (c₁ : Contract 𝓤) → Triple 𝓤 (C f) c₁ → (y : c₁ .Ghost) → val T L (now x) ∷ [] ≡ c₁ .args y
-        → ent 𝓤 (sem 𝓤 H A (row T .own (now x) (val T L (now x) ∷ []))) (c₁ .pre y)
-        → HandsBack 𝓤 H A Z c₁ y (R (now x)) (emp 𝓤)
+        → Called 𝓤 H A Z C f (val T L (now x) ∷ []) (sem 𝓤 H A (row T .own (now x) (val T L (now x) ∷ [])))
+        (R (now x)) (emp 𝓤)
         → ent 𝓤 (onEntry 𝓤 H A (storing T k .signature) (κ, (μ, tt)) (q, (p, tt)) (x, (out, tt)) args)
         (WpFn 𝓤 H C Λ (copier T f k)
         (vptr (x .ptr .0) (x .ptr .1) ∷ vptr (out .ptr .0) (out .ptr .1) ∷ []) PostOf)
-    walk-stored {f} C Λ fm c₁ met y are goes gives =
+    walk-stored {f} C Λ fm by-value =
         qed W ((‵ (flft κ q) ⊛ (‵ (flft μ p) ⊛ ‵ ftrue))
         ∷ ‵ (owns (ShrRef (named 0) κ (row T) ∷ MutRef (named 1) μ Z ∷ []) (x, (out, tt)) args) ∷ []) ∵
         split ! $ move ! (1 ∷ []) $ split ! $ move ! (3 ∷ []) $ fsplit ! $ move ! (1 ∷ []) $ fsplit ! $ fsplit3 ! $
@@ -156,11 +154,12 @@ module _ (T : Declared) (L : LL.Laws T) (cs : LL.Copyables (T .parts)) (k : ℕ)
         pass1 ! (init ! 6 refl (tt, tt)) $ pass1 ! (init ! 4 refl (tt, tt)) $ pass0 ! $
         move ! (10 ∷ 11 ∷ 2 ∷ 6 ∷ []) $
         copies-shared T L cs (x .ptr .0) (x .ptr .1) (now x) refl refl (
-        use1 W (raw (c₁ .pre y)) goes $
-        calls-at ! fm c₁ met y (subst (Opds (Go {0}) W _ _ _) are
+        use1 W (raw (by-value .contract .pre (by-value .ghost))) (by-value .asks) $
+        calls-at ! fm (by-value .contract) (by-value .met) (by-value .ghost)
+        (subst (Opds (Go {0}) W _ _ _) (by-value .takes)
         (and-then ! (load ! (from ! (stop !)) (look ! 2 refl)) (no-more !)))
         (λ v. use1 W (later (some (λ (z : List Float). given (R (now x) z) (‵ (Z .own z (v ∷ [])) ⊛ ‵ ftrue))))
-        (gives v) $
+        (by-value .gives v) $
         await ! tt $ pick ! (λ z. learn ! (λ e. split ! $
         peeks ! Z (Is Z) (shows 𝓤 H A Z) z (v ∷ []) (λ is.
         land ! (from ! (stop !)) (init ! 5 refl (l .lawful 𝓤 H A W .typed z (v ∷ []) is .0)) $
@@ -215,10 +214,8 @@ module _ (T : Declared) (L : LL.Laws T) (cs : LL.Copyables (T .parts)) {M : Type
       (λ κs. (shr-tells (named 0) (κs .0) (row T), (mut-tells (named 1) (κs .1 .0) (floats T k), tt)))
       (λ κs qs bounds a γ are. let h = now (a .0) in via 𝓤 _ (fst∗ 𝓤 _ (c κs a .requires γ))
       (walk-stored T L cs k 𝓤 H (𝓖 .A) W c R says (κs .0) (κs .1 .0) (qs .0) (qs .1 .0) (a .0) (a .1 .0) γ
-      (𝓣 .C) (𝓣 .Λ) (fmOf 𝓤 H (W .laws) 𝓣) (callee T L cs (floats T k) 𝓤 H (𝓖 .A) W c₀ h (ghost h))
+      (𝓣 .C) (𝓣 .Λ) (fmOf 𝓤 H (W .laws) 𝓣)
+      (called T L cs (floats T k) 𝓤 H (𝓖 .A) W c₀ h (ghost h) (𝓣 .C)
       (cited 𝓤 H (tripleOf 𝓤 H (𝓖 .A) (read T (floats T k) .signature) (closing 𝓤 H (𝓖 .A) (read T (floats T k)) c₀))
       𝓜 𝓡 env g routine calls met)
-      (to-callee T L cs (floats T k) 𝓤 H (𝓖 .A) W c₀ h (ghost h)) refl
-      (asks T L cs (floats T k) 𝓤 H (𝓖 .A) W c₀ h (ghost h) (asks-nothing h))
-      (hands-back (floats T k) 0 (taken T) (kept T) 𝓤 H (𝓖 .A) W c₀ tt tt (h, tt) (val T L h ∷ [], tt) (ghost h) (R h)
-      (gives h))))))
+      (asks-nothing h) (R h) (gives h))))))

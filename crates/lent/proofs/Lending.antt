@@ -13,7 +13,7 @@ use mir.Val.{Val}
 use base.Logic.{SProp, ent, sep, emp, id⊢}
 use prog.Model.{Model}
 use prog.Routine.{Env, Routine}
-use prog.Wp.{Heap, Tables, Closed}
+use prog.Wp.{Heap, Calls, Tables, Closed}
 use ghost.Atoms.{Atoms, sem}
 use contract.Monad.{fact}
 use contract.Lifetimes.{Lfts, Shares}
@@ -30,10 +30,10 @@ use denote.Struct.Declared.{Declared, row}
 use denote.Struct.Laws as LL
 use denote.Triple.Clauses.{Clauses, Ended, AtExit, atExit, closing}
 use denote.Triple.End.{Fins, Kepts, all}
-use denote.Triple.Statement.{Contract}
+use denote.Triple.Statement.{Contract, Triple}
 use denote.Triple.Spec.{Meets, tripleOf}
 use denote.Triple.Table.{entered, cited}
-use Rattle.lent.proofs.Calling.{giving, Callee, hands-back}
+use Rattle.lent.proofs.Calling.{Called, giving, Callee, hands-back}
 use Rattle.lent.proofs.Extras.{values}
 use Rattle.lent.proofs.Loan.{onLoan, tokens, passing, loan-meets}
 use Rattle.lent.proofs.PassedOn.{PassedOn, mirs, slots, slots-inside, rows, rows-inside, spelled, machine}
@@ -84,6 +84,25 @@ module _ (T : Declared) (L : LL.Laws T) {n : ℕ} (ps : List (PassedOn n)) {M : 
       (subst (λ (P : SProp 𝓤). ent 𝓤 (emp 𝓤) P) (sym nothing-more) (id⊢ 𝓤 (emp 𝓤))) $
       move ! (1 ∷ 0 ∷ []) $ done !
 
+  -- so where it meets its contract, which says Says of what it gives, a walk has what it has to have of it
+  called : {f : Name} (C : Calls 𝓤 H) → Triple 𝓤 (C f) callee
+      → c (κs .1) (now x, across κs ps a) .requires ghost ≡ emp 𝓤
+      → (Says : T .D → Type 0) → ((r : T .D) (e : AtExit (byValue T ps) (κs .1))
+      → c (κs .1) (now x, across κs ps a) .ensures ghost r e ≡ fact 𝓤 (Says r))
+      → Called 𝓤 H A (row T) C f (val T L (now x) ∷ values (mirs ps) (machine κs ps a))
+      (sep 𝓤 (sem 𝓤 H A (row T .own (now x) (val T L (now x) ∷ []))) (passing n 𝓤 A κs qs H ps a)) Says
+      (tokens n 𝓤 A κs qs)
+  called C met nothing-more Says says = record {
+    contract = callee;
+    met = met;
+    ghost = to-callee;
+    takes = passes-all;
+    asks = asks nothing-more;
+    gives =
+        hands-back (row T) n (taken T ps) (kept T ps) 𝓤 H A W c (κs .1) (qs .1) (now x, across κs ps a) passes ghost
+        Says says;
+  }
+
 -- ---- the two theorems
 -- What a proof cites: its own key f and the callee's g, the environment that its code is defined in with what is known
 -- of it, the two contracts, what these say, and the callee's theorem. c₀ is the callee's contract, and c is that of the
@@ -116,16 +135,13 @@ module _ (T : Declared) (L : LL.Laws T) {M : Type 1} (𝓤 : URA M) (H : Heap �
       (tables 𝓤 H 𝓜 𝓡 env .C) (tables 𝓤 H 𝓜 𝓡 env .Λ) f (lent T g n (mirs ps)) closed
       (loan-meets T L ps 𝓤 H (𝓖 .A) W c (λ κs x a. R κs (now x) (across κs ps a)) updates (lent T g n (mirs ps)) 𝓣
       (λ κs qs x a Kf ends typed.
-      let h = now x in let b = across κs ps a in let γ = ghost κs h b in
+      let h = now x in let b = across κs ps a in
       walks T L W _ _ Kf (x .ptr .0) (x .ptr .1) h n (mirs ps) (machine κs ps a) typed (fmOf 𝓤 H (W .laws) 𝓣)
-      (callee T L ps 𝓤 H (𝓖 .A) W c₀ κs qs x a γ)
+      (passing n 𝓤 (𝓖 .A) κs qs H ps a) (R κs h b) (tokens n 𝓤 (𝓖 .A) κs qs)
+      (called T L ps 𝓤 H (𝓖 .A) W c₀ κs qs x a (ghost κs h b) (𝓣 .C)
       (cited 𝓤 H (tripleOf 𝓤 H (𝓖 .A) (byValue T ps .signature) (closing 𝓤 H (𝓖 .A) (byValue T ps) c₀)) 𝓜 𝓡 env g
       routine calls met)
-      (to-callee T L ps 𝓤 H (𝓖 .A) W c₀ κs qs x a γ) (passes-all T L ps 𝓤 H (𝓖 .A) W c₀ κs qs x a γ)
-      (passing n 𝓤 (𝓖 .A) κs qs H ps a) (asks T L ps 𝓤 H (𝓖 .A) W c₀ κs qs x a γ (asks-nothing κs h b))
-      (R κs h b) (tokens n 𝓤 (𝓖 .A) κs qs)
-      (hands-back (row T) n (taken T ps) (kept T ps) 𝓤 H (𝓖 .A) W c₀ (κs .1) (qs .1) (h, b)
-      (passes T L ps 𝓤 H (𝓖 .A) W c₀ κs qs x a γ) γ (R κs h b) (gives κs h b))
+      (asks-nothing κs h b) (R κs h b) (gives κs h b))
       ends))
 
   abbrev pub made : Ended
@@ -153,10 +169,16 @@ module _ (T : Declared) (L : LL.Laws T) {M : Type 1} (𝓤 : URA M) (H : Heap �
       (tables 𝓤 H 𝓜 𝓡 env .C) (tables 𝓤 H 𝓜 𝓡 env .Λ) f (lent-unread T g) closed
       (loan-meets T L none 𝓤 H (𝓖 .A) W c (λ κs x a. R) updates (lent-unread T g) 𝓣 (λ κs qs x a Kf ends typed.
       walks-unread T L W _ _ Kf (x .ptr .0) (x .ptr .1) (now x) (fmOf 𝓤 H (W .laws) 𝓣)
-      (Callee (row T) 0 [] tt 𝓤 H (𝓖 .A) W c₀)
-      (cited 𝓤 H (tripleOf 𝓤 H (𝓖 .A) (made .signature) (closing 𝓤 H (𝓖 .A) made c₀)) 𝓜 𝓡 env g routine calls met)
-      ((tt, tt, tt, tt, tt), ghost) refl (passing 0 𝓤 (𝓖 .A) κs qs H none a)
-      (qed W (raw (passing 0 𝓤 (𝓖 .A) κs qs H none a) ∷ []) ∵ drop ! $ nothing ! $ nothing ! $ join ! $
-      use0 W (raw (c₀ tt tt .requires ghost))
-      (subst (λ (P : SProp 𝓤). ent 𝓤 (emp 𝓤) P) (sym asks-nothing) (id⊢ 𝓤 (emp 𝓤))) $ move ! (1 ∷ 0 ∷ []) $ done !)
-      R (hands-back (row T) 0 [] tt 𝓤 H (𝓖 .A) W c₀ tt tt tt tt ghost R gives) ends))
+      (passing 0 𝓤 (𝓖 .A) κs qs H none a) R
+      (record {
+        contract = Callee (row T) 0 [] tt 𝓤 H (𝓖 .A) W c₀;
+        met = cited 𝓤 H (Callee (row T) 0 [] tt 𝓤 H (𝓖 .A) W c₀) 𝓜 𝓡 env g routine calls met;
+        ghost = ((tt, tt, tt, tt, tt), ghost);
+        takes = refl;
+        asks =
+            qed W (raw (passing 0 𝓤 (𝓖 .A) κs qs H none a) ∷ []) ∵ drop ! $ nothing ! $ nothing ! $ join ! $
+            use0 W (raw (c₀ tt tt .requires ghost))
+            (subst (λ (P : SProp 𝓤). ent 𝓤 (emp 𝓤) P) (sym asks-nothing) (id⊢ 𝓤 (emp 𝓤))) $
+            move ! (1 ∷ 0 ∷ []) $ done !;
+        gives = hands-back (row T) 0 [] tt 𝓤 H (𝓖 .A) W c₀ tt tt tt tt ghost R gives;
+      }) ends))

@@ -43,7 +43,7 @@ use denote.Triple.Spec.{Meets, tripleOf}
 use denote.Triple.Statement.{Contract, Triple}
 use denote.Triple.Table.{entered, cited}
 use denote.Triple.Walked.{Stays, stay-dropped, walkOf, goes-dropped, ends-at, walked, walk-meets}
-use Rattle.lent.proofs.Calling.{HandsBack, giving, Callee, hands-back}
+use Rattle.lent.proofs.Calling.{Called, giving, Callee, hands-back}
 use Rattle.lent.proofs.Extras.{at}
 use Rattle.lent.proofs.PassedOn.{one-typed}
 use Rattle.lent.proofs.Walk.{State, val, holds, room, owned}
@@ -69,10 +69,10 @@ module _ (T : Declared) where
 
   -- ---- the reader by value
 
-  abbrev pub taken : List (Slot 0)
+  abbrev taken : List (Slot 0)
   taken = plain (λ κs. row T) ∷ []
 
-  abbrev pub kept : Kepts taken
+  abbrev kept : Kepts taken
   kept = (yes, tt)
 
   abbrev pub read : RattleType → Ended
@@ -108,18 +108,32 @@ module _ (T : Declared) (L : LL.Laws T) (cs : LL.Copyables (T .parts)) where
 
   module _ (Z : RattleType) {M : Type 1} (𝓤 : URA M) (H : Heap 𝓤) (A : Atoms 𝓤) (W : Given 𝓤 H A)
       (c₀ : Clauses 𝓤 (read T Z)) (h : T .D) (ghost : c₀ tt (h, tt) .ghost) where
-    abbrev pub callee : Contract 𝓤
+    abbrev callee : Contract 𝓤
     callee = Callee Z 0 (taken T) (kept T) 𝓤 H A W c₀
 
-    abbrev pub to-callee : callee .Ghost
+    abbrev to-callee : callee .Ghost
     to-callee = ((tt, tt, tt, (h, tt), (val T L h ∷ [], tt)), ghost)
 
-    pub asks : c₀ tt (h, tt) .requires ghost ≡ emp 𝓤
+    asks : c₀ tt (h, tt) .requires ghost ≡ emp 𝓤
         → ent 𝓤 (sem 𝓤 H A (row T .own h (val T L h ∷ []))) (callee .pre to-callee)
     asks nothing-more =
         qed W (owned T L h ∷ []) ∵ nothing ! $ move ! (1 ∷ 0 ∷ []) $ fjoin ! $ nothing ! $ join ! $
         use0 W (raw (c₀ tt (h, tt) .requires ghost))
         (subst (λ (P : SProp 𝓤). ent 𝓤 (emp 𝓤) P) (sym nothing-more) (id⊢ 𝓤 (emp 𝓤))) $ move ! (1 ∷ 0 ∷ []) $ done !
+
+    -- so where it meets its contract, which says Says of what it gives, a walk has what it has to have of it
+    pub called : {f : Name} (C : Calls 𝓤 H) → Triple 𝓤 (C f) callee → c₀ tt (h, tt) .requires ghost ≡ emp 𝓤
+        → (Says : Z .Denot → Type 0)
+        → ((z : Z .Denot) (e : AtExit (read T Z) tt) → c₀ tt (h, tt) .ensures ghost z e ≡ fact 𝓤 (Says z))
+        → Called 𝓤 H A Z C f (val T L h ∷ []) (sem 𝓤 H A (row T .own h (val T L h ∷ []))) Says (emp 𝓤)
+    called C met nothing-more Says says = record {
+      contract = callee;
+      met = met;
+      ghost = to-callee;
+      takes = refl;
+      asks = asks nothing-more;
+      gives = hands-back Z 0 (taken T) (kept T) 𝓤 H A W c₀ tt tt (h, tt) (val T L h ∷ [], tt) ghost Says says;
+    }
 
 -- ---- answered
 
@@ -162,13 +176,12 @@ module _ (T : Declared) (L : LL.Laws T) (cs : LL.Copyables (T .parts)) (F : Fiel
         move ! (1 ∷ 0 ∷ []) $ done !
 
     walk : {f : Name} (C : Calls 𝓤 H) (Λ : Loops 𝓤 H) → FmC 𝓤 H (W .laws) C
-        → (c₁ : Contract 𝓤) → Triple 𝓤 (C f) c₁ → (y : c₁ .Ghost) → val T L (now x) ∷ [] ≡ c₁ .args y
-        → ent 𝓤 (sem 𝓤 H A (row T .own (now x) (val T L (now x) ∷ []))) (c₁ .pre y)
-        → HandsBack 𝓤 H A (F .row) c₁ y (R (now x)) (emp 𝓤)
+        → Called 𝓤 H A (F .row) C f (val T L (now x) ∷ []) (sem 𝓤 H A (row T .own (now x) (val T L (now x) ∷ [])))
+        (R (now x)) (emp 𝓤)
         → ent 𝓤 (onEntry 𝓤 H A (answering T (F .row) .signature) (κ, tt) (q, tt) (x, tt)
         (vptr (x .ptr .0) (x .ptr .1) ∷ [], tt))
         (WpFn 𝓤 H C Λ (reader T f (lone (F .row .mir))) (vptr (x .ptr .0) (x .ptr .1) ∷ []) Post)
-    walk {f} C Λ fm c₁ met y are goes gives =
+    walk {f} C Λ fm by-value =
         qed W ((‵ (flft κ q) ⊛ ‵ ftrue)
         ∷ ‵ (owns (ShrRef (named 0) κ (row T) ∷ []) (x, tt) (vptr (x .ptr .0) (x .ptr .1) ∷ [], tt)) ∷ []) ∵
         split ! $ move ! (2 ∷ []) $ fsplit ! $ fsplit3 ! $ keep ! (2 ∷ 4 ∷ []) $
@@ -177,11 +190,12 @@ module _ (T : Declared) (L : LL.Laws T) (cs : LL.Copyables (T .parts)) (F : Fiel
         alloc1 ! (λ l₀. alloc1 ! (λ l₁. alloc1 ! (λ l₂. alloc0 ! $ params1 ! $
         pass1 ! (init ! 2 refl (tt, tt)) $ pass0 ! $ move ! (6 ∷ 7 ∷ 0 ∷ 2 ∷ []) $
         copies-shared T L cs (x .ptr .0) (x .ptr .1) (now x) refl refl (
-        use1 W (raw (c₁ .pre y)) goes $
-        calls-at ! fm c₁ met y (subst (Opds (Go {0}) W _ _ _) are
+        use1 W (raw (by-value .contract .pre (by-value .ghost))) (by-value .asks) $
+        calls-at ! fm (by-value .contract) (by-value .met) (by-value .ghost)
+        (subst (Opds (Go {0}) W _ _ _) (by-value .takes)
         (and-then ! (load ! (from ! (stop !)) (look ! 2 refl)) (no-more !)))
         (λ v. use1 W (later (some (λ (z : F .row .Denot). given (R (now x) z) (‵ (F .row .own z (v ∷ [])) ⊛ ‵ ftrue))))
-        (gives v) $
+        (by-value .gives v) $
         await ! tt $ pick ! (λ z. learn ! (λ e. split ! $
         peeks ! (F .row) (Is (F .row)) (shows 𝓤 H A (F .row)) z (v ∷ []) (λ is.
         land ! (from ! (stop !)) (init ! 7 refl (one-typed (F .row .mir) v (l .lawful 𝓤 H A W .typed z (v ∷ []) is))) $
@@ -222,10 +236,7 @@ module _ (T : Declared) (L : LL.Laws T) (cs : LL.Copyables (T .parts)) {M : Type
       (λ κs. (ptr-vals, tt)) (λ κs. (shr-tells (named 0) (κs .0) (row T), tt))
       (λ κs qs bounds a γ are. let h = now (a .0) in via 𝓤 _ (fst∗ 𝓤 _ (c κs a .requires γ))
       (walk T L cs F l 𝓤 H (𝓖 .A) W c R says (κs .0) (qs .0) (a .0) γ (𝓣 .C) (𝓣 .Λ) (fmOf 𝓤 H (W .laws) 𝓣)
-      (callee T L cs (F .row) 𝓤 H (𝓖 .A) W c₀ h (ghost h))
+      (called T L cs (F .row) 𝓤 H (𝓖 .A) W c₀ h (ghost h) (𝓣 .C)
       (cited 𝓤 H (tripleOf 𝓤 H (𝓖 .A) (read T (F .row) .signature) (closing 𝓤 H (𝓖 .A) (read T (F .row)) c₀)) 𝓜 𝓡
       env g routine calls met)
-      (to-callee T L cs (F .row) 𝓤 H (𝓖 .A) W c₀ h (ghost h)) refl
-      (asks T L cs (F .row) 𝓤 H (𝓖 .A) W c₀ h (ghost h) (asks-nothing h))
-      (hands-back (F .row) 0 (taken T) (kept T) 𝓤 H (𝓖 .A) W c₀ tt tt (h, tt) (val T L h ∷ [], tt) (ghost h) (R h)
-      (gives h))))))
+      (asks-nothing h) (R h) (gives h))))))
