@@ -1,4 +1,5 @@
--- How structs and enums pass to C and back: as floats and numbers. Definitions only.
+-- How structs and enums pass to C and back: as floats and numbers. (The quad's state passes as the struct that it is,
+-- and needs no definition.) Definitions only.
 use mathlib.Core.Path.{_≡_}
 use mathlib.Core.List.{List}
 use Prim.Native.Nat.{ℕ}
