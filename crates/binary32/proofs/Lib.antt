@@ -24,6 +24,7 @@ pub mod Near
 pub mod Decimals
 pub mod Products
 pub mod Absolute
+pub mod Masked
 pub mod Range
 pub mod Overflow
 pub mod NearExamples
