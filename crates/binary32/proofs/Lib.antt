@@ -32,3 +32,5 @@ pub mod LessOne
 pub mod Zero
 pub mod OperationsMet
 pub mod OneResult
+pub mod Answers
+pub mod ComparisonMet

@@ -1,4 +1,4 @@
--- A bit pattern without its sign's bit is that of the absolute value: what is left of the pattern of x is read as x with
+-- A bit pattern without its sign's bit is that of the absolute value: the rest of the pattern of x is read as x with
 -- its sign made positive and nothing else changed, for every x that the format holds, NaN and the infinities too. In
 -- either format. Assumes nothing.
 use mathlib.Core.Path.{_≡_, refl, sym, ap, _∙_}

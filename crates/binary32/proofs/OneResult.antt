@@ -25,7 +25,7 @@ use Rattle.binary32.proofs.Integers.{own-pair}
 -- ---- every two operands fall under a row
 
 -- what holds where one is a NaN, and of every two numbers, holds of every two operands
-by-operands : {f : Format} {x y : Float} (P : Float → Float → Type 0)
+pub by-operands : {f : Format} {x y : Float} (P : Float → Float → Type 0)
     → (T (isNan x || isNan y) → P x y)
     → ((s t : Bool) → P (inf s) (inf t))
     → ((s t : Bool) (n : ℕ) (d : ℤ) → Finite f (fin t n d) → P (inf s) (fin t n d))
@@ -43,7 +43,7 @@ by-operands {f} {x} {y} P nn ii if fi ff hx hy =
     go false false some none = none tt tt
 
 -- a finite number is a zero, or counts something
-zero-or-some : {f : Format} {x : Float} → Finite f x → (x ≡ zeroOf (negative x)) ⊎ (0 < magnitude f x)
+pub zero-or-some : {f : Format} {x : Float} → Finite f x → (x ≡ zeroOf (negative x)) ⊎ (0 < magnitude f x)
 unfolding negative fits isNan
 zero-or-some {f} {x} h = elim (eq-zero-or-pos (magnitude f x)) [
   | inl e ↦ inl (same-number (finite-number h) (record { fits = tt; number = tt }) refl

@@ -4,4 +4,5 @@ pub mod Rounding
 pub mod Nearest
 pub mod HalfUnit
 pub mod Operations
+pub mod Comparison
 pub mod Range
