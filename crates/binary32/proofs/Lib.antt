@@ -34,3 +34,5 @@ pub mod OperationsMet
 pub mod OneResult
 pub mod Answers
 pub mod ComparisonMet
+pub mod SignsMet
+pub mod TestsMet

@@ -5,4 +5,6 @@ pub mod Nearest
 pub mod HalfUnit
 pub mod Operations
 pub mod Comparison
+pub mod Signs
+pub mod Tests
 pub mod Range
