@@ -36,3 +36,5 @@ pub mod Answers
 pub mod ComparisonMet
 pub mod SignsMet
 pub mod TestsMet
+pub mod Fields
+pub mod EncodingMet

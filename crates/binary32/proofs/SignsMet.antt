@@ -68,7 +68,8 @@ sign-determined nan h a b = a .not-a-number refl ∙ sym (b .not-a-number refl)
 sign-determined (inf s) h a b = a .infinite s refl ∙ sym (b .infinite s refl)
 sign-determined (fin s m e) h a b =
     same-number (finite-number (is-finite (a .held h) (a .number tt)))
-    (finite-number (is-finite (b .held h) (b .number tt))) (a .sign tt ∙ sym (b .sign tt)) (a .size tt ∙ sym (b .size tt))
+    (finite-number (is-finite (b .held h) (b .number tt)))
+    (a .sign tt ∙ sym (b .sign tt)) (a .size tt ∙ sym (b .size tt))
 
 -- what meets the rows of negate is the kit's negation
 pub negation-is : {f : Format} {x z : Float} → T (fits f x) → Negation f x z → z ≡ neg x

@@ -7,4 +7,5 @@ pub mod Operations
 pub mod Comparison
 pub mod Signs
 pub mod Tests
+pub mod Encoding
 pub mod Range
