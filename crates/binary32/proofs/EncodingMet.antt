@@ -1,27 +1,26 @@
 -- What the kit reads from a bit pattern, `ofBits`, is what the rows of IEEE 754-2019, 3.4, say that it encodes, for
--- every pattern of the format's width, and they say it of no other value; and what the kit writes for a value, `toBits`,
--- is a pattern that encodes it, the only one unless it is a NaN (specs/Encoding.antt). In either format. Assumes
--- nothing.
+-- every pattern of the format's width, and they say it of no other value. What the kit writes for a value, `toBits`, is
+-- a pattern that encodes it, the only one unless it is a NaN (specs/Encoding.antt). So the exponent's field of a
+-- pattern tells whether the value is finite. In either format. Assumes nothing.
 use mathlib.Core.Path.{_≡_, refl, sym, ap, _∙_, subst}
-use mathlib.Core.Logic.{inl, inr}
-use mathlib.Core.Bool.{Bool, true, false, not, cond}
+use mathlib.Core.Bool.{Bool, true, not, cond}
 use Prim.Native.Nat.{ℕ, zero, suc, _+_, _-_, _*_, _^_, _<_}
-use native.Mathlib.Nat.{eq-zero-or-pos, eq-or-lt-of-le, eq-of-mul-eq-mul-right, mul-pos}
+use native.Mathlib.Nat.{eq-of-mul-eq-mul-right, mul-pos}
 use native.Mathlib.Nat.{mul-assoc, mul-comm, mul-left-comm, pow-suc}
 use native.Mathlib.Omega.{arith}
 use borrow.Author.Tests.{eq-eqb, ne-eqb}
 use lib.Dec.{T, eqb}
-use lib.Pow.{pow-pos, pow-add, le-ones}
+use lib.Pow.{pow-pos, pow-add}
 use lib.Ieee.{Float, nan, inf, fin, Format, prec, low, odd, fits, isNan, hid, ones, ofFields, ofBits, toBits}
 use lib.Ieee.Bits.{is-true, ofBits-fits, ofBits-toBits, toBits-lt, toBits-ofBits}
 use lib.Ieee.Exact.{HasValue, odd-sign}
 use lib.Ieee.Scale.{finite}
-use Rattle.binary32.specs.Whole.{negative, magnitude}
+use Rattle.binary32.specs.Whole.{negative}
 use Rattle.binary32.specs.Operations.{zeroOf}
 use Rattle.binary32.specs.Encoding.{width, trailingWidth, bias, exponentField, trailingField, signSet}
-use Rattle.binary32.specs.Encoding.{exponentWidth, allOnes, Value, Encodes}
+use Rattle.binary32.specs.Encoding.{allOnes, Value, Encodes}
 use Rattle.binary32.proofs.Magnitude.{is-finite, finite-number, magnitude-of, same-number}
-use Rattle.binary32.proofs.Fields.{table, exponent-in, kit-sign, kit-exponent, kit-trailing}
+use Rattle.binary32.proofs.Fields.{table, by-row, kit-sign, kit-exponent, kit-trailing}
 
 -- ---- the kit's reading of three fields
 
@@ -124,20 +123,13 @@ value-determined {f} a b =
 
 -- two values that a pattern encodes are one
 pub encoded-determined : {f : Format} (b : ℕ) {x y : Float} → Encodes f b x → Encodes f b y → x ≡ y
-unfolding allOnes
-encoded-determined {f} b v w = elim (eq-zero-or-pos (exponentField f b)) [
-  | inl e ↦ elim (eq-zero-or-pos (trailingField f b)) [
-    | inl t ↦ v .zero e t ∙ sym (w .zero e t)
-    | inr t ↦ value-determined (v .subnormal e t) (w .subnormal e t)
-  ]
-  | inr p ↦ elim (eq-or-lt-of-le (le-ones (exponentWidth f) (exponent-in f b))) [
-    | inl e ↦ elim (eq-zero-or-pos (trailingField f b)) [
-      | inl t ↦ v .infinite e t ∙ sym (w .infinite e t)
-      | inr t ↦ v .not-a-number e t ∙ sym (w .not-a-number e t)
-    ]
-    | inr l ↦ value-determined (v .normal p l) (w .normal p l)
-  ]
-]
+encoded-determined {f} b v w =
+    by-row f b
+    (λ e t. v .not-a-number e t ∙ sym (w .not-a-number e t))
+    (λ e t. v .infinite e t ∙ sym (w .infinite e t))
+    (λ p l. value-determined (v .normal p l) (w .normal p l))
+    (λ e t. value-determined (v .subnormal e t) (w .subnormal e t))
+    (λ e t. v .zero e t ∙ sym (w .zero e t))
 
 -- ---- writing
 
@@ -163,21 +155,19 @@ encoding-determined {f} b {x} h n v =
 -- a value is finite exactly where the exponent's field of a pattern that encodes it is not all ones
 pub finite-by-exponent : {f : Format} (b : ℕ) {x : Float} → Encodes f b x
     → finite x ≡ not (eqb (exponentField f b) (allOnes f))
-unfolding allOnes
-finite-by-exponent {f} b {x} v = elim (eq-or-lt-of-le (le-ones (exponentWidth f) (exponent-in f b))) [
-  | inl e ↦ rw (eq-eqb _ _ e) (elim (eq-zero-or-pos (trailingField f b)) [
-    | inl t ↦ rw (v .infinite e t)
-    | inr t ↦ rw (v .not-a-number e t)
-  ])
-  | inr l ↦ rw (ne-eqb (exponentField f b) (2 ^ exponentWidth f - 1) (λ e. omega arith))
-      (elim (eq-zero-or-pos (exponentField f b)) [
-        | inl e ↦ elim (eq-zero-or-pos (trailingField f b)) [
-          | inl t ↦ rw (v .zero e t)
-          | inr t ↦ is-true (finite x) (v .subnormal e t .number)
-        ]
-        | inr p ↦ is-true (finite x) (v .normal p l .number)
-      ])
-]
+finite-by-exponent {f} b {x} v =
+    by-row f b
+    (λ e t. rw (v .not-a-number e t, eq-eqb (exponentField f b) (allOnes f) e))
+    (λ e t. rw (v .infinite e t, eq-eqb (exponentField f b) (allOnes f) e))
+    (λ p l. is-true (finite x) (v .normal p l .number) ∙ sym (under l))
+    (λ e t. is-true (finite x) (v .subnormal e t .number) ∙ sym (under (not-all e)))
+    (λ e t. rw (v .zero e t) (sym (under (not-all e))))
+  where
+    under : exponentField f b < allOnes f → not (eqb (exponentField f b) (allOnes f)) ≡ true
+    under l = rw (ne-eqb (exponentField f b) (allOnes f) (λ e. omega arith))
+
+    not-all : exponentField f b ≡ 0 → exponentField f b < allOnes f
+    not-all e = omega (arith, table f .highest-field)
 
 -- so is what the kit reads from a pattern
 pub read-finite : (f : Format) (b : ℕ) → b < 2 ^ width f

@@ -1,11 +1,13 @@
 -- The fields of a bit pattern (specs/Encoding.antt): Table 3.5 of IEEE 754-2019 agrees with the kit's parameters, each
--- field lies within its width, and a pattern is its three fields put together. In either format. Assumes nothing.
+-- field lies within its width, a pattern is its three fields put together, and falls under one of the rows of 3.4. In
+-- either format. Assumes nothing.
 use mathlib.Core.Path.{_≡_, refl, sym, ap, _∙_, subst}
+use mathlib.Core.Logic.{inl, inr}
 use Prim.Native.Nat.{ℕ, suc, _+_, _-_, _*_, _/_, _%_, _^_, _≤_, _<_}
-use native.Mathlib.Nat.{mod-lt, one-mul, le-trans, le-of-eq, le-div-iff-mul-le}
+use native.Mathlib.Nat.{mod-lt, one-mul, le-trans, le-of-eq, le-div-iff-mul-le, eq-zero-or-pos, eq-or-lt-of-le}
 use native.Mathlib.Omega.{arith}
 use lib.Dec.{leb, eqb, leb→le, le→leb, eqb→eq}
-use lib.Pow.{pow-pos, split, shr-lt, mod-pow-add, field}
+use lib.Pow.{pow-pos, le-ones, split, shr-lt, mod-pow-add, field}
 use lib.Ieee.{Format, binary32, binary64, prec, emax, low, hid, ones, top}
 use lib.Ieee.Fits.{eq→eqb}
 use Rattle.binary32.specs.Encoding.{width, exponentWidth, trailingWidth, bias}
@@ -82,6 +84,23 @@ put-together f b =
     let w = exponentWidth f in
     let t = trailingWidth f in
     sym (split b (w + t)) ∙ ap (λ (n : ℕ). b / 2 ^ (w + t) * 2 ^ (w + t) + n) (mod-pow-add b w t)
+
+-- what holds under each of the rows of 3.4 holds of every pattern
+pub by-row : {P : Type 0} (f : Format) (b : ℕ)
+    → (exponentField f b ≡ allOnes f → 0 < trailingField f b → P)
+    → (exponentField f b ≡ allOnes f → trailingField f b ≡ 0 → P)
+    → (0 < exponentField f b → exponentField f b < allOnes f → P)
+    → (exponentField f b ≡ 0 → 0 < trailingField f b → P)
+    → (exponentField f b ≡ 0 → trailingField f b ≡ 0 → P)
+    → P
+unfolding allOnes
+by-row f b nan infinite normal subnormal zero = elim (eq-zero-or-pos (exponentField f b)) [
+  | inl e ↦ elim (eq-zero-or-pos (trailingField f b)) [ inl t ↦ zero e t | inr t ↦ subnormal e t ]
+  | inr p ↦ elim (eq-or-lt-of-le (le-ones (exponentWidth f) (exponent-in f b))) [
+    | inl e ↦ elim (eq-zero-or-pos (trailingField f b)) [ inl t ↦ infinite e t | inr t ↦ nan e t ]
+    | inr l ↦ normal p l
+  ]
+]
 
 -- ---- the fields as the kit reads them
 

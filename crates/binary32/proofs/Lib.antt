@@ -1,7 +1,8 @@
 -- From the general to the particular: sizes and their order; rounding as the kit does it (`RoundedSize`, `Rounded`) and
 -- the operations as roundings; then that this is what the standard has delivered (`Values` to `Exact`) and how far it
 -- lies from the exact result (`HalfUnit`, `Near`); decimals, products, ranges and zeros; and last the rows of the
--- standard for each operation, which leave one result.
+-- standard for each operation, which leave one result: the four of arithmetic, then comparison, signs, the tests for
+-- NaN and finite, and the encoding.
 pub mod Tests
 pub mod Magnitude
 pub mod Order
