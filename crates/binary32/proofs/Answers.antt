@@ -1,13 +1,14 @@
 -- What the kit's comparisons answer, against the tables of specs/Comparison.antt: four of its tests settle the six
--- answers; two natural numbers give them by their order, and a NaN by none; and a table that is true for one relation
--- names it. Assumes nothing.
+-- answers, and three the relation. They are found here for every two operands but two finite numbers, of which it is
+-- said that the order of two natural numbers gives them. Assumes nothing.
 use mathlib.Core.Path.{_≡_, refl, sym, _∙_}
-use mathlib.Core.Bool.{true, false, not, _||_, false≢true, true≢false}
+use mathlib.Core.Bool.{Bool, true, false, not, _||_}
 use Prim.Native.Nat.{ℕ, _<_}
 use native.Mathlib.Omega.{arith}
 use borrow.Author.Tests.{lt-ltb, le-ltb, eq-eqb, ne-eqb}
 use lib.Dec.{T, ltb, eqb}
 use lib.Ieee.{Float, nan, inf, fin, isNan, eq, ne, lt, le}
+use lib.Ieee.Scale.{finite}
 use Rattle.binary32.specs.Comparison.{Relation, less, equal, greater, unordered}
 use Rattle.binary32.specs.Comparison.{equalHolds, notEqualHolds, lessHolds}
 use Rattle.binary32.specs.Comparison.{lessEqualHolds, greaterHolds, greaterEqualHolds}
@@ -21,7 +22,7 @@ pub record Answers (x y : Float) (r : Relation) : Type 0 where
   pub greater : lt y x ≡ greaterHolds r
   pub greater-equal : le y x ≡ greaterEqualHolds r
 
--- ---- the tables against each other: four tests give all six answers
+-- ---- the tables against each other
 
 not-table : (r : Relation) → not (equalHolds r) ≡ notEqualHolds r
 unfolding equalHolds notEqualHolds
@@ -44,6 +45,7 @@ greater-table equal = refl
 greater-table greater = refl
 greater-table unordered = refl
 
+-- four tests give all six answers
 pub answers-of : {x y : Float} (r : Relation) → eq x y ≡ equalHolds r → eq y x ≡ equalHolds r → lt x y ≡ lessHolds r
     → lt y x ≡ greaterHolds r → Answers x y r
 unfolding ne le
@@ -56,6 +58,29 @@ answers-of r e e′ l g = record {
   greater-equal = rw (e′, g) (greater-table r);
 }
 
+-- ---- three tests give the relation
+
+-- by whether x is less, equal, greater
+relation-of : Bool → Bool → Bool → Relation
+relation-of true e g = less
+relation-of false true g = equal
+relation-of false false true = greater
+relation-of false false false = unordered
+
+table-relation : (r : Relation) → relation-of (lessHolds r) (equalHolds r) (greaterHolds r) ≡ r
+unfolding relation-of equalHolds lessHolds greaterHolds
+table-relation less = refl
+table-relation equal = refl
+table-relation greater = refl
+table-relation unordered = refl
+
+told : {x y : Float} {r : Relation} → Answers x y r → relation-of (lt x y) (eq x y) (lt y x) ≡ r
+told {r} h = rw (h .less, h .equal, h .greater) (table-relation r)
+
+-- two operands have the answers of one relation only
+pub one-relation : {x y : Float} {r q : Relation} → Answers x y r → Answers x y q → r ≡ q
+one-relation a b = sym (told a) ∙ told b
+
 -- ---- two numbers whose tests are those of the natural numbers a and b
 
 pub record Stands (x y : Float) (a b : ℕ) : Type 0 where
@@ -65,65 +90,81 @@ pub record Stands (x y : Float) (a b : ℕ) : Type 0 where
   pub greater : lt y x ≡ ltb b a
 
 module _ {x y : Float} {a b : ℕ} (h : Stands x y a b) where
-  pub answers-less : a < b → Answers x y less
+  -- where a is less, the answers are those of "less"
+  pub stands-less : a < b → Answers x y less
   unfolding equalHolds lessHolds greaterHolds
-  answers-less l =
+  stands-less l =
       answers-of less (h .equal ∙ ne-eqb a b (λ e. omega arith)) (h .equal-back ∙ ne-eqb b a (λ e. omega arith))
       (h .less ∙ lt-ltb a b l) (h .greater ∙ le-ltb b a (omega arith))
 
-  pub answers-equal : a ≡ b → Answers x y equal
+  -- where they are equal, those of "equal"
+  pub stands-equal : a ≡ b → Answers x y equal
   unfolding equalHolds lessHolds greaterHolds
-  answers-equal e =
+  stands-equal e =
       answers-of equal (h .equal ∙ eq-eqb a b e) (h .equal-back ∙ eq-eqb b a (sym e))
       (h .less ∙ le-ltb a b (omega arith)) (h .greater ∙ le-ltb b a (omega arith))
 
-  pub answers-greater : b < a → Answers x y greater
+  -- and where a is greater, those of "greater"
+  pub stands-greater : b < a → Answers x y greater
   unfolding equalHolds lessHolds greaterHolds
-  answers-greater l =
+  stands-greater l =
       answers-of greater (h .equal ∙ ne-eqb a b (λ e. omega arith)) (h .equal-back ∙ ne-eqb b a (λ e. omega arith))
       (h .less ∙ le-ltb a b (omega arith)) (h .greater ∙ lt-ltb b a l)
 
--- ---- a NaN on either side, or on both
+-- ---- infinities
 
-pub not-a-number-answers : (x y : Float) → T (isNan x || isNan y) → Answers x y unordered
+-- an infinity is equal to itself
+pub same-infinity : (s : Bool) → Answers (inf s) (inf s) equal
+unfolding eq lt equalHolds lessHolds greaterHolds
+same-infinity true = answers-of equal refl refl refl refl
+same-infinity false = answers-of equal refl refl refl refl
+
+-- -∞ is less than +∞, and +∞ greater than -∞
+pub infinities-less : Answers (inf true) (inf false) less
+unfolding eq lt equalHolds lessHolds greaterHolds
+infinities-less = answers-of less refl refl refl refl
+
+pub infinities-greater : Answers (inf false) (inf true) greater
+unfolding eq lt equalHolds lessHolds greaterHolds
+infinities-greater = answers-of greater refl refl refl refl
+
+-- -∞ is less than a finite number, which is less than +∞
+pub minus-infinity-less : {x : Float} → T (finite x) → Answers (inf true) x less
+unfolding eq lt equalHolds lessHolds greaterHolds
+minus-infinity-less {x = nan} t = absurd t
+minus-infinity-less {x = inf s} t = absurd t
+minus-infinity-less {x = fin s m e} t = answers-of less refl refl refl refl
+
+pub less-plus-infinity : {x : Float} → T (finite x) → Answers x (inf false) less
+unfolding eq lt equalHolds lessHolds greaterHolds
+less-plus-infinity {x = nan} t = absurd t
+less-plus-infinity {x = inf s} t = absurd t
+less-plus-infinity {x = fin s m e} t = answers-of less refl refl refl refl
+
+-- +∞ is greater than a finite number, which is greater than -∞
+pub plus-infinity-greater : {x : Float} → T (finite x) → Answers (inf false) x greater
+unfolding eq lt equalHolds lessHolds greaterHolds
+plus-infinity-greater {x = nan} t = absurd t
+plus-infinity-greater {x = inf s} t = absurd t
+plus-infinity-greater {x = fin s m e} t = answers-of greater refl refl refl refl
+
+pub greater-minus-infinity : {x : Float} → T (finite x) → Answers x (inf true) greater
+unfolding eq lt equalHolds lessHolds greaterHolds
+greater-minus-infinity {x = nan} t = absurd t
+greater-minus-infinity {x = inf s} t = absurd t
+greater-minus-infinity {x = fin s m e} t = answers-of greater refl refl refl refl
+
+-- ---- NaN
+
+-- a NaN is unordered with everything
+pub nan-unordered : (x y : Float) → T (isNan x || isNan y) → Answers x y unordered
 unfolding eq lt isNan equalHolds lessHolds greaterHolds
-not-a-number-answers nan nan h = answers-of unordered refl refl refl refl
-not-a-number-answers nan (inf t) h = answers-of unordered refl refl refl refl
-not-a-number-answers nan (fin t n d) h = answers-of unordered refl refl refl refl
-not-a-number-answers (inf s) nan h = answers-of unordered refl refl refl refl
-not-a-number-answers (inf s) (inf t) h = absurd h
-not-a-number-answers (inf s) (fin t n d) h = absurd h
-not-a-number-answers (fin s m e) nan h = answers-of unordered refl refl refl refl
-not-a-number-answers (fin s m e) (inf t) h = absurd h
-not-a-number-answers (fin s m e) (fin t n d) h = absurd h
-
--- ---- a table of one relation, read backward
-
-pub less-only : (r : Relation) → true ≡ lessHolds r → r ≡ less
-unfolding lessHolds
-less-only less h = refl
-less-only equal h = absurd (true≢false h)
-less-only greater h = absurd (true≢false h)
-less-only unordered h = absurd (true≢false h)
-
-pub equal-only : (r : Relation) → true ≡ equalHolds r → r ≡ equal
-unfolding equalHolds
-equal-only less h = absurd (true≢false h)
-equal-only equal h = refl
-equal-only greater h = absurd (true≢false h)
-equal-only unordered h = absurd (true≢false h)
-
-pub greater-only : (r : Relation) → true ≡ greaterHolds r → r ≡ greater
-unfolding greaterHolds
-greater-only less h = absurd (true≢false h)
-greater-only equal h = absurd (true≢false h)
-greater-only greater h = refl
-greater-only unordered h = absurd (true≢false h)
-
-pub unordered-only : (r : Relation) → false ≡ equalHolds r → false ≡ lessHolds r → false ≡ greaterHolds r
-    → r ≡ unordered
-unfolding equalHolds lessHolds greaterHolds
-unordered-only less e l g = absurd (false≢true l)
-unordered-only equal e l g = absurd (false≢true e)
-unordered-only greater e l g = absurd (false≢true g)
-unordered-only unordered e l g = refl
+nan-unordered nan nan h = answers-of unordered refl refl refl refl
+nan-unordered nan (inf t) h = answers-of unordered refl refl refl refl
+nan-unordered nan (fin t n d) h = answers-of unordered refl refl refl refl
+nan-unordered (inf s) nan h = answers-of unordered refl refl refl refl
+nan-unordered (inf s) (inf t) h = absurd h
+nan-unordered (inf s) (fin t n d) h = absurd h
+nan-unordered (fin s m e) nan h = answers-of unordered refl refl refl refl
+nan-unordered (fin s m e) (inf t) h = absurd h
+nan-unordered (fin s m e) (fin t n d) h = absurd h
