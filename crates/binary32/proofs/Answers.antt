@@ -1,6 +1,6 @@
 -- What the kit's comparisons answer, against the tables of specs/Comparison.antt: four of its tests settle the six
--- answers, and three the relation. They are found here for every two operands but two finite numbers, of which it is
--- said that the order of two natural numbers gives them. Assumes nothing.
+-- answers, which are found here for every two operands but two finite numbers, of which it is said that the order of
+-- two natural numbers gives them; and three of the tests settle the relation. Assumes nothing.
 use mathlib.Core.Path.{_≡_, refl, sym, _∙_}
 use mathlib.Core.Bool.{Bool, true, false, not, _||_}
 use Prim.Native.Nat.{ℕ, _<_}
@@ -57,29 +57,6 @@ answers-of r e e′ l g = record {
   greater = g;
   greater-equal = rw (e′, g) (greater-table r);
 }
-
--- ---- three tests give the relation
-
--- by whether x is less, equal, greater
-relation-of : Bool → Bool → Bool → Relation
-relation-of true e g = less
-relation-of false true g = equal
-relation-of false false true = greater
-relation-of false false false = unordered
-
-table-relation : (r : Relation) → relation-of (lessHolds r) (equalHolds r) (greaterHolds r) ≡ r
-unfolding relation-of equalHolds lessHolds greaterHolds
-table-relation less = refl
-table-relation equal = refl
-table-relation greater = refl
-table-relation unordered = refl
-
-told : {x y : Float} {r : Relation} → Answers x y r → relation-of (lt x y) (eq x y) (lt y x) ≡ r
-told {r} h = rw (h .less, h .equal, h .greater) (table-relation r)
-
--- two operands have the answers of one relation only
-pub one-relation : {x y : Float} {r q : Relation} → Answers x y r → Answers x y q → r ≡ q
-one-relation a b = sym (told a) ∙ told b
 
 -- ---- two numbers whose tests are those of the natural numbers a and b
 
@@ -168,3 +145,26 @@ nan-unordered (inf s) (fin t n d) h = absurd h
 nan-unordered (fin s m e) nan h = answers-of unordered refl refl refl refl
 nan-unordered (fin s m e) (inf t) h = absurd h
 nan-unordered (fin s m e) (fin t n d) h = absurd h
+
+-- ---- three tests give the relation
+
+-- by whether x is less, equal, greater
+relation-of : Bool → Bool → Bool → Relation
+relation-of true e g = less
+relation-of false true g = equal
+relation-of false false true = greater
+relation-of false false false = unordered
+
+table-relation : (r : Relation) → relation-of (lessHolds r) (equalHolds r) (greaterHolds r) ≡ r
+unfolding relation-of equalHolds lessHolds greaterHolds
+table-relation less = refl
+table-relation equal = refl
+table-relation greater = refl
+table-relation unordered = refl
+
+told : {x y : Float} {r : Relation} → Answers x y r → relation-of (lt x y) (eq x y) (lt y x) ≡ r
+told {r} h = rw (h .less, h .equal, h .greater) (table-relation r)
+
+-- two operands have the answers of one relation only
+pub one-relation : {x y : Float} {r q : Relation} → Answers x y r → Answers x y q → r ≡ q
+one-relation a b = sym (told a) ∙ told b
