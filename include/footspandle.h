@@ -214,10 +214,12 @@ void footspandle_quad_mix_priority(footspandle_quad *FOOTSPANDLE_WRITTEN state, 
 
 /*
  * Airmode: keeps the torque as far as it fits between the idle floor and 1, and moves the thrust up
- * or down for it. The collective is the limited thrust, even under the idle floor. Where the deltas are
- * spread wider than idle to 1, all are scaled by the room over the spread. Then, if the lowest motor is
- * under idle, all are shifted up to bring it there, or else, if the highest is over 1, down to bring it
- * there.
+ * or down for it. The collective is the limited thrust, even under the idle floor. Where the spread of
+ * the deltas, the largest less the least, is over 1e-6 and wider than idle to 1, all are scaled by the
+ * room over the spread; a spread that overflows counts as 0, so that nothing is scaled. Then, if the
+ * lowest motor is under idle, all are shifted up to bring it there, or else, if the highest is over 1,
+ * down to bring it there. What then still lies outside idle to 1 is cut: over 1 to 1, and what is under
+ * idle or not finite to idle, so that an overflow gives idle and not 1.
  * Promised: every motor lies from the idle floor to 1. A command that fits is not cut: each motor is
  * the exact sum of collective and delta, rounded once, zero's sign aside, so that no float is nearer
  * to that sum.

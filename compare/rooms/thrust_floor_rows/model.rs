@@ -1,6 +1,7 @@
 //! A model of thrust-floor over any rows, which the Rust has for the quad alone. It is written from
 //! document 02's K6 and from what document 01 says of treating numbers, whose words are quoted, in
-//! the plainest way. Nothing of it is ours, and of the Rust's only the rows of the two frames.
+//! the plainest way. It calls nothing of our library, and takes of the Rust only the rows of the two
+//! frames. It is ours all the same, and who wrote it had seen the Rust.
 
 use comparing::inputs::LENT;
 

@@ -101,6 +101,7 @@ without-keeps failed floor bs ds ff =
     → Inside (limited floor) (floorClamp (treated (getD bs i nan +f s *f getD ds i nan)) (limited floor)) =
     λ i. clamp-inside _ (treated-finite _ (add-fits binary32 _ _) .fits) h in
     record {
+      count = refl;
       lost = λ l. at-four motor failed l ∙ rw (eq-eqb failed failed refl);
       healthy = λ i l n. rw (at-four motor i l, ne-eqb i failed n) (motor-inside i .between);
       unit = each-mapped (Between 0f 1f) motor
@@ -121,6 +122,7 @@ unfolding quadRows
 tilt-keeps failed floor t r p ff l =
     let k = tilt-clamped (limited floor) t r p (limited-floor floor ff) quadRows in
     record {
+      count = refl;
       lost = λ g. let no : ⊥ = omega arith in absurd no;
       healthy =
           λ i g n. each-at (Between (limited floor) 1f) nan (map (tiltMotor (limited floor) t r p) quadRows)

@@ -15,6 +15,7 @@ use Rattle.rules.specs.RotorOut.{rotorOutMotors}
 use Rattle.rules.specs.Frame.{frameMotors}
 use Rattle.rules.specs.Promises.{PlainKeeps, ThrustFloorKeeps, PriorityKeeps}
 use Rattle.rules.specs.Promises.{AirmodeKeeps, RotorOutKeeps, FrameKeeps}
+use Rattle.rules.proofs.Count.{plain-count, frame-count, thrust-floor-count, priority-count, airmode-count}
 use Rattle.rules.proofs.Bounded.{thrust-floor-clamped, thrust-floor-scaled, priority-clamped}
 use Rattle.rules.proofs.Bounded.{airmode-clamped, without-keeps, tilt-keeps}
 use Rattle.rules.proofs.Ordered.{thrust-floor-ordered}
@@ -30,6 +31,7 @@ pub plain-keeps : (torque : List Float) (thrust : Float) → ((k : ℕ) → T (f
     → T (fits binary32 thrust)
     → PlainKeeps torque thrust (plainMotors quadRows torque thrust)
 plain-keeps torque thrust fs ft = record {
+  count = plain-count quadRows torque thrust;
   unit = plain-unit quadRows torque thrust;
   noNan = plain-no-nan torque thrust fs ft;
   overflowed = plain-overflowed torque thrust fs ft;
@@ -50,6 +52,7 @@ pub frame-keeps : (rows : List Row) (torque : List Float) (thrust : Float)
     → ((k : ℕ) → T (fits binary32 (getD torque k nan))) → T (fits binary32 thrust)
     → FrameKeeps rows torque thrust (frameMotors rows torque thrust)
 frame-keeps rows torque thrust fs ft = record {
+  count = frame-count rows torque thrust;
   unit = frame-unit rows torque thrust;
   quadX = λ e h. rw e (quad-x-agrees torque thrust fs ft h);
 }
@@ -62,6 +65,7 @@ module _ (rows : List Row) (torque : List Float) (thrust floor : Float) (ft : T 
   thrust-floor-keeps =
       let clamped = thrust-floor-clamped rows torque thrust floor ff in
       record {
+        count = thrust-floor-count rows torque thrust floor;
         bounded = clamped .bounded;
         unit = clamped .unit;
         scaled = thrust-floor-scaled rows torque thrust floor;
@@ -73,6 +77,7 @@ module _ (rows : List Row) (torque : List Float) (thrust floor : Float) (ft : T 
   priority-keeps =
       let clamped = priority-clamped rows torque thrust floor ff in
       record {
+        count = priority-count rows torque thrust floor;
         bounded = clamped .bounded;
         unit = clamped .unit;
         fitting = priority-fitting rows torque thrust floor ff;
@@ -83,6 +88,7 @@ module _ (rows : List Row) (torque : List Float) (thrust floor : Float) (ft : T 
   airmode-keeps =
       let clamped = airmode-clamped rows torque thrust floor ff in
       record {
+        count = airmode-count rows torque thrust floor;
         bounded = clamped .bounded;
         unit = clamped .unit;
         fitting = airmode-fitting rows torque thrust floor ft ff;

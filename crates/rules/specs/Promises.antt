@@ -53,10 +53,12 @@ abbrev pub Ordered : List Float → List Float → Type 0
 Ordered ds motors =
     (i j : ℕ) → le (getD ds i nan) (getD ds j nan) ≡ true → le (getD motors i nan) (getD motors j nan) ≡ true
 
--- ---- the mixes
+-- ---- the mixes. Each says first how many motors there are, so that no promise is kept by leaving motors out:
+-- proofs/NoMotors
 
 pub record ThrustFloorKeeps (rows : List Row) (torque : List Float) (thrust floor : Float)
     (motors : List Float) (scale : Float) : Type 0 where
+  pub count : length motors ≡ length rows
   pub bounded : Bounded floor motors
   pub unit : InUnit motors
   pub scaled : Between 0f 1f scale
@@ -85,6 +87,7 @@ AllFitBothOrders rows torque thrust floor =
 
 pub record PriorityKeeps (rows : List Row) (torque : List Float) (thrust floor : Float) (motors : List Float)
     : Type 0 where
+  pub count : length motors ≡ length rows
   pub bounded : Bounded floor motors
   pub unit : InUnit motors
   -- "each motor is collective plus roll/pitch plus yaw, rounded at each sum"
@@ -97,12 +100,14 @@ pub record PriorityKeeps (rows : List Row) (torque : List Float) (thrust floor :
 
 pub record AirmodeKeeps (rows : List Row) (torque : List Float) (thrust idle : Float) (motors : List Float)
     : Type 0 where
+  pub count : length motors ≡ length rows
   pub bounded : Bounded idle motors
   pub unit : InUnit motors
   pub fitting : Fits idle (limited thrust) (deltas rows torque)
       → EachMotor (SumRounded (limited thrust)) (deltas rows torque) motors
 
 pub record RotorOutKeeps (failed : ℕ) (floor : Float) (motors : List Float) : Type 0 where
+  pub count : length motors ≡ 4
   -- "a lost rotor 0 to 3 being +0"
   pub lost : failed < 4 → getD motors failed nan ≡ 0f
   -- every other one of the four is bounded: all four where the rotor number is 4 or more
@@ -111,6 +116,7 @@ pub record RotorOutKeeps (failed : ℕ) (floor : Float) (motors : List Float) : 
 
 -- of any frame, `MixerN`'s: document 01's claims in 'Any airframe'
 pub record FrameKeeps (rows : List Row) (torque : List Float) (thrust : Float) (motors : List Float) : Type 0 where
+  pub count : length motors ≡ length rows
   -- "All results are in 0..1 for every matrix bit pattern."
   pub unit : InUnit motors
   -- "`quad_x` agrees in its first four, by bits, with plain whenever no raw sum of plain is +infinity."
@@ -128,6 +134,7 @@ abbrev pub 2^24 : Float
 
 -- plain, on the quad: document 01's claims in 'The five quad mixes', 1
 pub record PlainKeeps (torque : List Float) (thrust : Float) (motors : List Float) : Type 0 where
+  pub count : length motors ≡ length quadRows
   pub unit : InUnit motors
   -- "Raw sums are never NaN here."
   pub noNan : Each (λ x. T (not (isNan x))) (rawSums quadRows torque thrust)

@@ -5,7 +5,8 @@
 //! of its name, but for `Mixer::new`, which keeps its rows; a mixer of more than 64 rotors does not
 //! compile; the module [`thrust_floor`] is added.
 //!
-//! An autopilot that uses relay-mix-multi changes the path in its manifest and nothing else. Answers are
+//! An autopilot that uses relay-mix-multi for up to 64 rotors changes the path in its manifest, and no
+//! line of its code; the archive has to be built before it (README, 'Call it from Rust'). Answers are
 //! the same by bits, a NaN being any NaN: bindings/rust/test compares them by running both. What each
 //! function promises, for every bit pattern of every argument, is said in full in
 //! include/footspandle.h; here is what a caller needs at hand. Nothing here panics.

@@ -5,10 +5,11 @@
 //! of its name, but for the two `const fn new`; `from_geometry`, `hexa_x` and `QuadMixer`'s `Default`
 //! are left out; the module [`sheet`] is added.
 //!
-//! An autopilot that uses relay-mix-quad changes the path in its manifest and nothing else. Answers are
-//! the same by bits, a NaN being any NaN: bindings/rust/test compares them by running both. What each
-//! function promises, for every bit pattern of every argument, is said in full in
-//! include/footspandle.h; here is what a caller needs at hand. Nothing here panics.
+//! An autopilot that uses relay-mix-quad, and none of the three that are left out, changes the path in
+//! its manifest, and no line of its code; the archive has to be built before it (README, 'Call it from
+//! Rust'). Answers are the same by bits, a NaN being any NaN: bindings/rust/test compares them by
+//! running both. What each function promises, for every bit pattern of every argument, is said in full
+//! in include/footspandle.h; here is what a caller needs at hand. Nothing here panics.
 
 #![no_std]
 #![deny(unsafe_code)]
