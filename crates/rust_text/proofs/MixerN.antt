@@ -55,7 +55,8 @@ mix-n-is self torque thrust e =
       sanitise-is (torque ! 2),
       overwritten (λ row. sanitise (rawSum (treated thrust) (roll torque) (pitch torque) (yaw torque) row))
           (replicate 8 0f) (self .rows) (sym e),
-      map-same (λ row. sanitise-is (rawSum (treated thrust) (roll torque) (pitch torque) (yaw torque) row)) (self .rows),
+      map-same (λ row. sanitise-is (rawSum (treated thrust) (roll torque) (pitch torque) (yaw torque) row))
+          (self .rows),
       excess-taken (map (treatedSum torque thrust) (self .rows)),
       end-is (map (treatedSum torque thrust) (self .rows)) (sums-finite torque thrust (self .rows)),
     )

@@ -24,7 +24,8 @@ sums-are t r p y = by-rows (λ row. rawSum t r p y row)
 
 -- ---- the largest, and what is over 1 taken from all
 
-walked-larger : (held : Float) (xs : List Float) → forEach xs (λ v max. cond (v >f max) v max) held ≡ walked larger held xs
+walked-larger : (held : Float) (xs : List Float)
+    → forEach xs (λ v max. cond (v >f max) v max) held ≡ walked larger held xs
 unfolding walked larger
 walked-larger held [] = refl
 walked-larger held (x ∷ xs) = walked-larger (larger held x) xs

@@ -55,13 +55,15 @@ zeros-stay (suc (suc (suc (suc i)))) = refl
 
 nothing-placed : (f : ℕ) → placed f (0f ∷ 0f ∷ 0f ∷ []) ≡ replicate 4 0f
 unfolding placed
-nothing-placed f = rw (zeros-stay (getD (healthy f) 0 0), zeros-stay (getD (healthy f) 1 0)) (zeros-stay (getD (healthy f) 2 0))
+nothing-placed f =
+    rw (zeros-stay (getD (healthy f) 0 0), zeros-stay (getD (healthy f) 1 0)) (zeros-stay (getD (healthy f) 2 0))
 
 -- two answers, both solved or neither
 both-placed : (f : ℕ) (singular : Bool) (x y : List Float)
     → let answer : List Float → Solution =
     λ z. cond singular (record { solved = false; x = 0f ∷ 0f ∷ 0f ∷ [] }) (record { solved = true; x = z }) in
-    solvedInto (healthy f) (optional (answer x)) (optional (answer y)) ≡ (placed f (answer x .x), placed f (answer y .x))
+    solvedInto (healthy f) (optional (answer x)) (optional (answer y))
+    ≡ (placed f (answer x .x), placed f (answer y .x))
 unfolding solvedInto placed
 both-placed f true x y = rw (nothing-placed f)
 both-placed f false x y = refl
