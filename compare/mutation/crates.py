@@ -9,7 +9,7 @@ LOGS = os.path.join(WORK, 'log')
 RESULTS = os.path.join(WORK, 'results.tsv')
 DOCUMENT = os.path.join(ROOT, 'docs', 'MUTANTS.md')
 
-DEFINITIONS = ('general', 'binary32', 'refusals', 'rules')  # crates with no code
+DEFINITIONS = ('general', 'binary32', 'refusals', 'rules', 'rust_text')  # crates with no code
 VERDICTS = ('fact', 'shape', 'no program', 'survived', 'not told')
 
 def die(what):

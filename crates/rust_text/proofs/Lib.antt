@@ -1,5 +1,7 @@
--- That the Rust's text and document 01's rules are one: numbers and loops, then a mix a file, with what it needs beside
--- it; and last, over all public contracts, that what they ask for is what the Rust's functions give (`Contracts`).
+-- That the Rust's text and document 01's rules are one: literals, numbers and loops, then a mix a file, with what it
+-- needs beside it; and last, over all public contracts, that what they ask for is what the Rust's functions give
+-- (`Contracts`).
+pub mod Literals
 pub mod Numbers
 pub mod Loops
 pub mod Plain
