@@ -7,6 +7,7 @@ use Prim.Native.Nat.{ℕ, _<_}
 use native.Mathlib.Omega.{arith}
 use borrow.Author.Tests.{lt-ltb, le-ltb, eq-eqb, ne-eqb}
 use lib.Dec.{T, ltb, eqb}
+use lib.IntN.{ℤ}
 use lib.Ieee.{Float, nan, inf, fin, isNan, eq, ne, lt, le}
 use lib.Ieee.Scale.{finite}
 use Rattle.binary32.specs.Comparison.{Relation, less, equal, greater, unordered}
@@ -22,28 +23,19 @@ pub record Answers (x y : Float) (r : Relation) : Type 0 where
   pub greater : lt y x ≡ greaterHolds r
   pub greater-equal : le y x ≡ greaterEqualHolds r
 
--- ---- the tables against each other
+-- ---- the tables against each other: "not equal" is what "equal" is not, and "or equal" adds it to the other two
 
-not-table : (r : Relation) → not (equalHolds r) ≡ notEqualHolds r
-unfolding equalHolds notEqualHolds
-not-table less = refl
-not-table equal = refl
-not-table greater = refl
-not-table unordered = refl
+record Tables (r : Relation) : Type 0 where
+  not-equal : not (equalHolds r) ≡ notEqualHolds r
+  less-equal : lessHolds r || equalHolds r ≡ lessEqualHolds r
+  greater-equal : greaterHolds r || equalHolds r ≡ greaterEqualHolds r
 
-less-table : (r : Relation) → lessHolds r || equalHolds r ≡ lessEqualHolds r
-unfolding equalHolds lessHolds lessEqualHolds
-less-table less = refl
-less-table equal = refl
-less-table greater = refl
-less-table unordered = refl
-
-greater-table : (r : Relation) → greaterHolds r || equalHolds r ≡ greaterEqualHolds r
-unfolding equalHolds greaterHolds greaterEqualHolds
-greater-table less = refl
-greater-table equal = refl
-greater-table greater = refl
-greater-table unordered = refl
+tables : (r : Relation) → Tables r
+unfolding equalHolds notEqualHolds lessHolds lessEqualHolds greaterHolds greaterEqualHolds
+tables less = record { not-equal = refl; less-equal = refl; greater-equal = refl }
+tables equal = record { not-equal = refl; less-equal = refl; greater-equal = refl }
+tables greater = record { not-equal = refl; less-equal = refl; greater-equal = refl }
+tables unordered = record { not-equal = refl; less-equal = refl; greater-equal = refl }
 
 -- four tests give all six answers
 pub answers-of : {x y : Float} (r : Relation) → eq x y ≡ equalHolds r → eq y x ≡ equalHolds r → lt x y ≡ lessHolds r
@@ -51,12 +43,21 @@ pub answers-of : {x y : Float} (r : Relation) → eq x y ≡ equalHolds r → eq
 unfolding ne le
 answers-of r e e′ l g = record {
   equal = e;
-  not-equal = rw e (not-table r);
+  not-equal = rw e (tables r .not-equal);
   less = l;
-  less-equal = rw (e, l) (less-table r);
+  less-equal = rw (e, l) (tables r .less-equal);
   greater = g;
-  greater-equal = rw (e′, g) (greater-table r);
+  greater-equal = rw (e′, g) (tables r .greater-equal);
 }
+
+-- where x is less than y, y is greater than x: of "less or equal" turned round, which fails, no part holds
+pub turned : {x y : Float} → Answers x y less → Answers y x greater
+unfolding le equalHolds lessHolds greaterHolds greaterEqualHolds
+turned {x} {y} h = answers-of greater (second (lt y x) (eq y x) (h .greater-equal)) (h .equal) (h .greater) (h .less)
+  where
+    second : (p q : Bool) → p || q ≡ false → q ≡ false
+    second false q e = e
+    second true q e = cc
 
 -- ---- two numbers whose tests are those of the natural numbers a and b
 
@@ -81,12 +82,15 @@ module _ {x y : Float} {a b : ℕ} (h : Stands x y a b) where
       answers-of equal (h .equal ∙ eq-eqb a b e) (h .equal-back ∙ eq-eqb b a (sym e))
       (h .less ∙ le-ltb a b (omega arith)) (h .greater ∙ le-ltb b a (omega arith))
 
-  -- and where a is greater, those of "greater"
-  pub stands-greater : b < a → Answers x y greater
-  unfolding equalHolds lessHolds greaterHolds
-  stands-greater l =
-      answers-of greater (h .equal ∙ ne-eqb a b (λ e. omega arith)) (h .equal-back ∙ ne-eqb b a (λ e. omega arith))
-      (h .less ∙ le-ltb a b (omega arith)) (h .greater ∙ lt-ltb b a l)
+-- and where a is greater, those of "greater"
+pub stands-greater : {x y : Float} {a b : ℕ} → Stands x y a b → b < a → Answers x y greater
+stands-greater h l =
+    turned (stands-less (record {
+      equal = h .equal-back;
+      equal-back = h .equal;
+      less = h .greater;
+      greater = h .less;
+    }) l)
 
 -- ---- infinities
 
@@ -102,34 +106,31 @@ unfolding eq lt equalHolds lessHolds greaterHolds
 infinities-less = answers-of less refl refl refl refl
 
 pub infinities-greater : Answers (inf false) (inf true) greater
-unfolding eq lt equalHolds lessHolds greaterHolds
-infinities-greater = answers-of greater refl refl refl refl
+infinities-greater = turned infinities-less
+
+-- what holds of every number that is written out holds of every finite one
+by-written : (P : Float → Type 0) → ((s : Bool) (m : ℕ) (e : ℤ) → P (fin s m e)) → (x : Float) → T (finite x) → P x
+by-written P h nan t = absurd t
+by-written P h (inf s) t = absurd t
+by-written P h (fin s m e) t = h s m e
 
 -- -∞ is less than a finite number, which is less than +∞
 pub minus-infinity-less : {x : Float} → T (finite x) → Answers (inf true) x less
 unfolding eq lt equalHolds lessHolds greaterHolds
-minus-infinity-less {x = nan} t = absurd t
-minus-infinity-less {x = inf s} t = absurd t
-minus-infinity-less {x = fin s m e} t = answers-of less refl refl refl refl
+minus-infinity-less {x} =
+    by-written (λ x. Answers (inf true) x less) (λ s m e. answers-of less refl refl refl refl) x
 
 pub less-plus-infinity : {x : Float} → T (finite x) → Answers x (inf false) less
 unfolding eq lt equalHolds lessHolds greaterHolds
-less-plus-infinity {x = nan} t = absurd t
-less-plus-infinity {x = inf s} t = absurd t
-less-plus-infinity {x = fin s m e} t = answers-of less refl refl refl refl
+less-plus-infinity {x} =
+    by-written (λ x. Answers x (inf false) less) (λ s m e. answers-of less refl refl refl refl) x
 
 -- +∞ is greater than a finite number, which is greater than -∞
 pub plus-infinity-greater : {x : Float} → T (finite x) → Answers (inf false) x greater
-unfolding eq lt equalHolds lessHolds greaterHolds
-plus-infinity-greater {x = nan} t = absurd t
-plus-infinity-greater {x = inf s} t = absurd t
-plus-infinity-greater {x = fin s m e} t = answers-of greater refl refl refl refl
+plus-infinity-greater t = turned (less-plus-infinity t)
 
 pub greater-minus-infinity : {x : Float} → T (finite x) → Answers x (inf true) greater
-unfolding eq lt equalHolds lessHolds greaterHolds
-greater-minus-infinity {x = nan} t = absurd t
-greater-minus-infinity {x = inf s} t = absurd t
-greater-minus-infinity {x = fin s m e} t = answers-of greater refl refl refl refl
+greater-minus-infinity t = turned (minus-infinity-less t)
 
 -- ---- NaN
 

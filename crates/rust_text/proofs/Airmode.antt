@@ -22,10 +22,8 @@ use Rattle.rules.specs.Command.{roll, pitch, yaw, deltas}
 use Rattle.rules.specs.Extremes.{larger, smaller, walked, best, largest, least}
 use Rattle.rules.specs.Airmode.{spread, spreadScale, unshifted, shift, shifted, airmodeMotors}
 use Rattle.rules.proofs.Clamp.{Floor, zero-floor, limited-floor, treated-finite}
-use Rattle.quad.specs.declared.QuadMixer.{QuadMixer}
-use Rattle.quad.specs.Mixes.{afterAirmode}
 use Rattle.rust_text.specs.Forms.{_!_, _<f_, _>f_, forEach}
-use Rattle.rust_text.specs.State.{answered}
+use Rattle.rust_text.specs.State.{Quad, answered, storeMotors}
 use Rattle.rust_text.specs.Airmode.{extremes, rangeScale, shiftOf, collectiveAdded, shiftAdded, mixAirmode}
 use Rattle.rust_text.proofs.Numbers.{sanitise-is, limited-is, clamp-floor-is}
 use Rattle.rust_text.proofs.Loops.{by-places, map-same}
@@ -102,8 +100,8 @@ deltas-spread : (torque : List Float)
 unfolding deltas quadRows
 deltas-spread torque = extremes-are _ _
 
-pub mix-airmode-is : (self : QuadMixer) (torque : List Float) (thrust idle : Float) → T (fits binary32 idle)
-    → mixAirmode self torque thrust idle ≡ answered (afterAirmode self torque thrust idle)
+pub mix-airmode-is : (self : Quad) (torque : List Float) (thrust idle : Float) → T (fits binary32 idle)
+    → mixAirmode self torque thrust idle ≡ answered (storeMotors self (airmodeMotors quadRows torque thrust idle))
 unfolding mixAirmode airmodeMotors unshifted spread deltas
 mix-airmode-is self torque thrust idle fi =
     let ds = deltas quadRows torque in

@@ -15,14 +15,12 @@ use Rattle.binary32.proofs.Magnitude.{Finite}
 use Rattle.general.specs.Each.{Each}
 use Rattle.general.proofs.Lists.{each-mapped}
 use Rattle.number.specs.Treat.{treated}
-use Rattle.rules.specs.Rows.{Row, thrustOf, rollOf, pitchOf, yawOf, rowsOf, runOf, quadRows, quadXRows}
+use Rattle.rules.specs.Rows.{Row, thrustOf, rollOf, pitchOf, yawOf, quadRows, quadXRows}
 use Rattle.rules.specs.Command.{roll, pitch, yaw}
 use Rattle.rules.specs.Plain.{rawSum, rawSums, lowerLimited}
-use Rattle.rules.specs.Frame.{frameMotors}
+use Rattle.rules.specs.Frame.{maxRotors, frameMotors}
 use Rattle.rules.specs.Torque.{summed, torqueOf, achieved}
 use Rattle.rules.proofs.Clamp.{treated-finite}
-use Rattle.frame.specs.Mixer.{made, rowsIn}
-use Rattle.frame.specs.declared.MixerN.{MixerN}
 use Rattle.rust_text.specs.Forms.{_!_, forEach, forUpTo, zip}
 use Rattle.rust_text.specs.Numbers.{sanitise}
 use Rattle.rust_text.specs.State.{MIXER_X}
@@ -90,10 +88,6 @@ achieved-wrench-is self motors = wrench-walked 0f 0f 0f 0f (self .rows) motors
 
 -- ---- how one is made
 
--- our mixer as the Rust has it: its run of floats cut into rows
-abbrev pub asRust : MixerN → Mixer
-asRust m = record { rows = rowsIn m; count = m .n }
-
 cut-to-eight : (n : ℕ) → cond (ltb 8 n) 8 n ≡ min n 8
 cut-to-eight n = go (ltb 8 n) refl
   where
@@ -101,10 +95,10 @@ cut-to-eight n = go (ltb 8 n) refl
     go true e = let over : 8 < n = ltb-true 8 n e in omega arith
     go false e = let under : n ≤ 8 = ltb-false 8 n e in omega arith
 
-pub new-is : (run : List Float) (n : ℕ) → newN (rowsOf run) n ≡ asRust (made run n)
+pub new-is : (rows : List Row) (n : ℕ) → newN rows n ≡ record { rows = rows; count = min n maxRotors }
 unfolding newN
-new-is run n = ap (λ (k : ℕ). record { rows = rowsOf run; count = k }) (cut-to-eight n)
+new-is rows n = ap (λ (k : ℕ). record { rows = rows; count = k }) (cut-to-eight n)
 
-pub quad-x-is : quadX ≡ asRust (made (runOf quadXRows) 4)
-unfolding quadX rowsOf runOf quadXRows quadRows MIXER_X
+pub quad-x-is : quadX ≡ record { rows = quadXRows; count = 4 }
+unfolding quadX quadXRows quadRows MIXER_X
 quad-x-is = refl

@@ -10,10 +10,8 @@ use Rattle.rules.specs.Rows.{quadRows}
 use Rattle.rules.specs.Command.{roll, pitch, yaw}
 use Rattle.rules.specs.Extremes.{larger, walked, best}
 use Rattle.rules.specs.Plain.{rawSum, rawSums, loweredBy, lowered, lowerLimited, plainMotors}
-use Rattle.quad.specs.declared.QuadMixer.{QuadMixer}
 use Rattle.rust_text.specs.Forms.{_>f_, forEach, _!_}
-use Rattle.quad.specs.Mixes.{afterPlain}
-use Rattle.rust_text.specs.State.{answered}
+use Rattle.rust_text.specs.State.{Quad, answered, storeMotors}
 use Rattle.rust_text.specs.Plain.{sums, largestOf, excessTaken, clipped, mix}
 use Rattle.rust_text.proofs.Numbers.{sanitise-is}
 use Rattle.rust_text.proofs.Loops.{by-rows}
@@ -56,8 +54,8 @@ clipped-is (x ∷ m) = ap₂ _∷_ (go (finite x) (lt x 0f)) (clipped-is m)
     go false true = refl
     go false false = refl
 
-pub mix-is : (self : QuadMixer) (torque : List Float) (thrust : Float)
-    → mix self torque thrust ≡ answered (afterPlain self torque thrust)
+pub mix-is : (self : Quad) (torque : List Float) (thrust : Float)
+    → mix self torque thrust ≡ answered (storeMotors self (plainMotors quadRows torque thrust))
 unfolding mix plainMotors lowerLimited rawSums
 mix-is self torque thrust =
     rw (

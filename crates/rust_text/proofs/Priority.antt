@@ -9,11 +9,9 @@ use Rattle.fit.specs.Fit.{fitScale}
 use Rattle.rules.specs.Rows.{Row, quadRows}
 use Rattle.rules.specs.Command.{roll, pitch, yaw, lifted, collective}
 use Rattle.rules.specs.Priority.{yawGroup, rollPitchGroup, yawScale, rollPitchScale, priorityMotor, priorityMotors}
-use Rattle.quad.specs.declared.QuadMixer.{QuadMixer}
-use Rattle.quad.specs.Mixes.{afterPriority}
 use Rattle.rust_text.specs.Forms.{_!_}
 use Rattle.rust_text.specs.Fit.{scaleToFit}
-use Rattle.rust_text.specs.State.{MIXER_X, answered}
+use Rattle.rust_text.specs.State.{Quad, MIXER_X, answered, storeMotors}
 use Rattle.rust_text.specs.Priority.{groups, yawFit, rollPitchFit, twoSums, mixPriority}
 use Rattle.rust_text.proofs.Numbers.{sanitise-is, limited-is, clamp-floor-is}
 use Rattle.rust_text.proofs.Loops.{by-places}
@@ -54,8 +52,9 @@ module _ (base floor : Float) (rp y : Row → Float) where
   unfolding twoSums priorityMotor quadRows
   two-sums-are srp sy = simp clamp-floor-is
 
-pub mix-priority-is : (self : QuadMixer) (torque : List Float) (thrust floor : Float)
-    → mixPriority self torque thrust floor ≡ answered (afterPriority self torque thrust floor)
+pub mix-priority-is : (self : Quad) (torque : List Float) (thrust floor : Float)
+    → mixPriority self torque thrust floor
+    ≡ answered (storeMotors self (priorityMotors quadRows torque thrust floor))
 unfolding mixPriority priorityMotors lifted
 mix-priority-is self torque thrust floor =
     let low = limited floor in

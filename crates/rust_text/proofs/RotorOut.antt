@@ -17,12 +17,9 @@ use Rattle.solve.specs.Solve.{element, determinant, singular, solution}
 use Rattle.rules.specs.Rows.{rollOf, pitchOf, quadRows}
 use Rattle.rules.specs.RotorOut.{3f, tilt, tiltMotor, healthy, equations, placed, baseWithout, deltaWithout}
 use Rattle.rules.specs.RotorOut.{motorWithout, motorsWithout, rotorOutMotors}
-use Rattle.quad.specs.declared.QuadMixer.{QuadMixer}
-use Rattle.quad.specs.State.{state}
-use Rattle.quad.specs.Mixes.{afterRotorOut}
 use Rattle.rust_text.specs.Forms.{_!_}
 use Rattle.rust_text.specs.Numbers.{sanitise, clampFloor}
-use Rattle.rust_text.specs.State.{MIXER_X, answered}
+use Rattle.rust_text.specs.State.{Quad, MIXER_X, answered, storeMotors, storeScale}
 use Rattle.rust_text.specs.RotorOut.{allFour, matrix, solvedInto, allButOne, threeOfFour, mixRotorOut}
 use Rattle.rust_text.proofs.Numbers.{sanitise-is, limited-is, clamp-floor-is, tilt-clamp}
 use Rattle.rust_text.proofs.Loops.{by-rows, map-same, same-body, set-if}
@@ -130,13 +127,15 @@ from-four f = go (ltb f 4) refl
     go false e = le-leb 4 f (ltb-false f 4 e)
 
 -- either way out stores the motors that it returns
-one-way-out : (b : Bool) (m n : List Float)
-    → cond (not b) (answered (state m 1f)) (answered (state n 1f)) ≡ answered (state (cond b n m) 1f)
-one-way-out true m n = refl
-one-way-out false m n = refl
+one-way-out : (self : Quad) (b : Bool) (m n : List Float)
+    → cond (not b) (answered (storeMotors self m)) (answered (storeMotors self n))
+    ≡ answered (storeMotors self (cond b n m))
+one-way-out self true m n = refl
+one-way-out self false m n = refl
 
-pub mix-rotor-out-is : (self : QuadMixer) (failed : ℕ) (torque : List Float) (thrust floor : Float)
-    → mixRotorOut self failed torque thrust floor ≡ answered (afterRotorOut self failed torque thrust floor)
+pub mix-rotor-out-is : (self : Quad) (failed : ℕ) (torque : List Float) (thrust floor : Float)
+    → mixRotorOut self failed torque thrust floor
+    ≡ answered (storeMotors (storeScale self 1f) (rotorOutMotors failed torque thrust floor))
 unfolding mixRotorOut rotorOutMotors tilt
 mix-rotor-out-is self failed torque thrust floor =
     let low = limited floor in
@@ -154,5 +153,5 @@ mix-rotor-out-is self failed torque thrust floor =
       all-four-are low t r p,
       three-of-four-are failed low t r p,
     )
-    (one-way-out (ltb failed 4) (map (tiltMotor low t r p) quadRows)
+    (one-way-out (storeScale self 1f) (ltb failed 4) (map (tiltMotor low t r p) quadRows)
     (motorsWithout failed low (baseWithout failed t) (deltaWithout failed r p)))

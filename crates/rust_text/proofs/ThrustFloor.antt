@@ -8,11 +8,9 @@ use Rattle.number.specs.Treat.{limited}
 use Rattle.rules.specs.Rows.{quadRows}
 use Rattle.rules.specs.Command.{roll, pitch, yaw, lifted, collective, delta, deltas}
 use Rattle.rules.specs.ThrustFloor.{oneScale, scaledMotor, scaledMotors, thrustFloorScale, thrustFloorMotors}
-use Rattle.quad.specs.declared.QuadMixer.{QuadMixer}
-use Rattle.quad.specs.Mixes.{afterThrustFloor}
 use Rattle.rust_text.specs.Forms.{_!_}
 use Rattle.rust_text.specs.Numbers.{sanitise, clampFloor}
-use Rattle.rust_text.specs.State.{answered}
+use Rattle.rust_text.specs.State.{Quad, answered, storeMotors, storeScale}
 use Rattle.rust_text.specs.ThrustFloor.{torqueDeltas, scaledOver, mixThrustFloor}
 use Rattle.rust_text.proofs.Numbers.{sanitise-is, limited-is, clamp-floor-is}
 use Rattle.rust_text.proofs.Loops.{by-rows, by-places, map-same}
@@ -33,8 +31,10 @@ pub four-deltas : (torque : List Float) → length (deltas quadRows torque) ≡ 
 unfolding deltas quadRows
 four-deltas torque = refl
 
-pub mix-thrust-floor-is : (self : QuadMixer) (torque : List Float) (thrust floor : Float)
-    → mixThrustFloor self torque thrust floor ≡ answered (afterThrustFloor self torque thrust floor)
+pub mix-thrust-floor-is : (self : Quad) (torque : List Float) (thrust floor : Float)
+    → mixThrustFloor self torque thrust floor
+    ≡ answered (storeScale (storeMotors self (thrustFloorMotors quadRows torque thrust floor))
+    (thrustFloorScale quadRows torque thrust floor))
 unfolding mixThrustFloor thrustFloorMotors thrustFloorScale scaledMotors oneScale lifted deltas
 mix-thrust-floor-is self torque thrust floor =
     let base = collective thrust floor in

@@ -6,10 +6,9 @@ use lib.ListN.{drop}
 use lib.Ieee.{Float, neg}
 use lib.Ieee.Scale.{finite}
 use Rattle.binary32.specs.Arithmetic.{_+f_, _-f_, _*f_, _/f_, 0f, 1f, small}
-use Rattle.quad.specs.declared.QuadMixer.{QuadMixer}
 use Rattle.rust_text.specs.Forms.{if_then_else_, _<f_, _>f_, _!_, forEach}
 use Rattle.rust_text.specs.Numbers.{sanitise, clamp01, clampFloor}
-use Rattle.rust_text.specs.State.{Method, storeMotors}
+use Rattle.rust_text.specs.State.{Quad, Method, storeMotors}
 use Rattle.rust_text.specs.ThrustFloor.{torqueDeltas}
 
 -- the least and the largest of four, which the Rust finds twice by the same lines: of the deltas, and of the motors
@@ -79,7 +78,7 @@ shiftAdded idle m =
     map (λ mi. clampFloor (mi +f shift) idle) m
 
 -- 000:331:     pub fn mix_airmode(&mut self, torque_body: [f32; 3], thrust: f32, idle: f32) -> [f32; 4] {
-unfoldable pub mixAirmode : QuadMixer → List Float → Float → Float → Method
+unfoldable pub mixAirmode : Quad → List Float → Float → Float → Method
 mixAirmode self torqueBody thrust idle =
     -- 000:332:         let t = clamp01(sanitise(thrust));
     let t = clamp01 (sanitise thrust) in

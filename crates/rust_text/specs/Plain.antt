@@ -6,10 +6,9 @@ use lib.ListN.{set, drop, replicate}
 use lib.Ieee.{Float}
 use lib.Ieee.Scale.{finite}
 use Rattle.binary32.specs.Arithmetic.{_+f_, _-f_, _*f_, 0f, 1f}
-use Rattle.quad.specs.declared.QuadMixer.{QuadMixer}
 use Rattle.rust_text.specs.Forms.{if_then_else_, _<f_, _>f_, _!_, _!!_, forUpTo, forEach}
 use Rattle.rust_text.specs.Numbers.{sanitise}
-use Rattle.rust_text.specs.State.{MIXER_X, Method, storeMotors}
+use Rattle.rust_text.specs.State.{Quad, MIXER_X, Method, storeMotors}
 
 unfoldable pub sums : Float → Float → Float → Float → List Float
 sums t r p y =
@@ -58,7 +57,7 @@ clipped m =
     else v) m
 
 -- 000:138:     pub fn mix(&mut self, torque_body: [f32; 3], thrust: f32) -> [f32; 4] {
-unfoldable pub mix : QuadMixer → List Float → Float → Method
+unfoldable pub mix : Quad → List Float → Float → Method
 mix self torqueBody thrust =
     -- 000:139:         let t = sanitise(thrust);
     let t = sanitise thrust in

@@ -4,11 +4,10 @@ use mathlib.Core.List.{List, [], _∷_}
 use lib.ListN.{set, replicate}
 use lib.Ieee.{Float}
 use Rattle.binary32.specs.Arithmetic.{_+f_, _*f_, 0f}
-use Rattle.quad.specs.declared.QuadMixer.{QuadMixer}
 use Rattle.rust_text.specs.Forms.{if_then_else_, _<f_, _!_, _!!_, forUpTo}
 use Rattle.rust_text.specs.Numbers.{sanitise, clamp01, clampFloor}
 use Rattle.rust_text.specs.Fit.{scaleToFit}
-use Rattle.rust_text.specs.State.{MIXER_X, Method, storeMotors}
+use Rattle.rust_text.specs.State.{Quad, MIXER_X, Method, storeMotors}
 
 -- dy and drp, which one loop fills
 unfoldable pub groups : Float → Float → Float → List Float × List Float
@@ -58,7 +57,7 @@ twoSums base floor srp sy drp dy =
     forUpTo 4 (λ i m. set m i (clampFloor (base +f srp *f drp ! i +f sy *f dy ! i) floor)) m
 
 -- 000:280:     pub fn mix_priority(&mut self, torque_body: [f32; 3], thrust: f32, floor: f32) -> [f32; 4] {
-unfoldable pub mixPriority : QuadMixer → List Float → Float → Float → Method
+unfoldable pub mixPriority : Quad → List Float → Float → Float → Method
 mixPriority self torqueBody thrust floor =
     -- 000:281:         let t = clamp01(sanitise(thrust));
     let t = clamp01 (sanitise thrust) in

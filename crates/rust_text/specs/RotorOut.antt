@@ -9,12 +9,11 @@ use lib.ListN.{getD, set, replicate}
 use lib.Ieee.{Float, neg}
 use Rattle.binary32.specs.Arithmetic.{_+f_, _*f_, 0f, 1f}
 use Rattle.rules.specs.RotorOut.{3f, 8f}
-use Rattle.quad.specs.declared.QuadMixer.{QuadMixer}
 use Rattle.rust_text.specs.Forms.{if_then_else_, _!_, _!!_, forUpTo}
 use Rattle.rust_text.specs.Numbers.{clamp, sanitise, clamp01, clampFloor}
 use Rattle.rust_text.specs.Solve.{solve3}
 use Rattle.rust_text.specs.Fit.{scaleToFit}
-use Rattle.rust_text.specs.State.{MIXER_X, Method, storeMotors, storeScale}
+use Rattle.rust_text.specs.State.{Quad, MIXER_X, Method, storeMotors, storeScale}
 
 -- with no rotor lost
 unfoldable pub allFour : Float → Float → Float → Float → List Float
@@ -96,7 +95,7 @@ threeOfFour failed floor t r p =
 -- 000:412:         thrust: f32,
 -- 000:413:         floor: f32,
 -- 000:414:     ) -> [f32; 4] {
-unfoldable pub mixRotorOut : QuadMixer → ℕ → List Float → Float → Float → Method
+unfoldable pub mixRotorOut : Quad → ℕ → List Float → Float → Float → Method
 mixRotorOut self failed torqueBody thrust floor =
     -- 000:422:         self.last_torque_scale = 1.0;
     let self = storeScale self 1f in

@@ -6,10 +6,9 @@ use lib.ListN.{set, replicate}
 use lib.Ieee.{Float, neg}
 use lib.Ieee.Scale.{finite}
 use Rattle.binary32.specs.Arithmetic.{_+f_, _-f_, _*f_, _/f_, 0f, 1f, small}
-use Rattle.quad.specs.declared.QuadMixer.{QuadMixer}
 use Rattle.rust_text.specs.Forms.{if_then_else_, _<f_, _>f_, _!_, _!!_, forUpTo, forEach}
 use Rattle.rust_text.specs.Numbers.{sanitise, clamp01, clampFloor}
-use Rattle.rust_text.specs.State.{MIXER_X, Method, storeMotors, storeScale}
+use Rattle.rust_text.specs.State.{Quad, MIXER_X, Method, storeMotors, storeScale}
 
 -- the torque's share of each motor; `mix_airmode` has it word for word
 unfoldable pub torqueDeltas : Float → Float → Float → List Float
@@ -59,7 +58,7 @@ scaledOver base floor s d =
     forUpTo 4 (λ i m. set m i (clampFloor (base +f s *f d ! i) floor)) m
 
 -- 000:201:     pub fn mix_thrust_floor(&mut self, torque_body: [f32; 3], thrust: f32, floor: f32) -> [f32; 4] {
-unfoldable pub mixThrustFloor : QuadMixer → List Float → Float → Float → Method
+unfoldable pub mixThrustFloor : Quad → List Float → Float → Float → Method
 mixThrustFloor self torqueBody thrust floor =
     -- 000:202:         let t = clamp01(sanitise(thrust));
     let t = clamp01 (sanitise thrust) in
