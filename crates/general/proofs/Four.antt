@@ -1,5 +1,5 @@
--- A list of four numbers is its four numbers, so that what is defined on lists computes on an array of four. Assumes
--- nothing.
+-- A list of four numbers is its four numbers, so that what is defined on lists computes on an array of four; and of
+-- three of anything. Assumes nothing.
 use mathlib.Core.Path.{_≡_, refl}
 use mathlib.Core.List.{List, [], _∷_}
 use native.Mathlib.Omega.{arith}
@@ -13,3 +13,10 @@ four (a ∷ []) h = let no : ⊥ = omega arith in absurd no
 four (a ∷ b ∷ []) h = let no : ⊥ = omega arith in absurd no
 four (a ∷ b ∷ c ∷ []) h = let no : ⊥ = omega arith in absurd no
 four (a ∷ b ∷ c ∷ d ∷ e ∷ m) h = let no : ⊥ = omega arith in absurd no
+
+pub three : {A : Type 0} (d : A) (m : List A) → length m ≡ 3 → m ≡ getD m 0 d ∷ getD m 1 d ∷ getD m 2 d ∷ []
+three d (a ∷ b ∷ c ∷ []) h = refl
+three d [] h = let no : ⊥ = omega arith in absurd no
+three d (a ∷ []) h = let no : ⊥ = omega arith in absurd no
+three d (a ∷ b ∷ []) h = let no : ⊥ = omega arith in absurd no
+three d (a ∷ b ∷ c ∷ e ∷ m) h = let no : ⊥ = omega arith in absurd no

@@ -24,6 +24,11 @@ module _ {A : Type 0} where
   each-of-map P g [] h = tt
   each-of-map P g (a ∷ l) h = (h .0, each-of-map P g l (h .1))
 
+  -- what is the same of every value is the same of all of a list
+  pub map-same : {B : Type 0} {f g : A → B} → ((a : A) → f a ≡ g a) → (l : List A) → map f l ≡ map g l
+  map-same h [] = refl
+  map-same h (a ∷ l) = ap₂ _∷_ (h a) (map-same h l)
+
   -- where P holds of each, what P gives of one holds of each: of a mapped value, and of two that are equal
   module _ (P : A → Type 0) where
     pub each-map : {B : Type 0} (Q : B → Type 0) (g : A → B) → ((a : A) → P a → Q (g a)) → (l : List A) → Each P l

@@ -10,6 +10,7 @@ use lib.Ieee.{Float, binary32, fits, lt}
 use lib.Ieee.Bits.{is-true}
 use lib.Ieee.Fits.{sub-fits}
 use lib.Ieee.Scale.{finite}
+use Rattle.general.proofs.Lists.{map-same}
 use Rattle.binary32.specs.Arithmetic.{_+f_, _-f_, _*f_, 0f, 1f, small}
 use Rattle.binary32.proofs.Magnitude.{finite-number}
 use Rattle.binary32.proofs.Comparison.{units-le, le-refl, not-over}
@@ -26,7 +27,7 @@ use Rattle.rust_text.specs.Forms.{_!_, _<f_, _>f_, forEach}
 use Rattle.rust_text.specs.State.{Quad, answered, storeMotors}
 use Rattle.rust_text.specs.Airmode.{extremes, rangeScale, shiftOf, collectiveAdded, shiftAdded, mixAirmode}
 use Rattle.rust_text.proofs.Numbers.{sanitise-is, limited-is, clamp-floor-is}
-use Rattle.rust_text.proofs.Loops.{by-places, map-same}
+use Rattle.rust_text.proofs.Loops.{by-places}
 use Rattle.rust_text.proofs.ThrustFloor.{torque-deltas-are, four-deltas}
 use Rattle.rust_text.proofs.Span.{span-between, factor-quotient}
 

@@ -31,7 +31,7 @@ step-is floor b d s = go (lt small d) (lt d (neg small))
     go false true = refl
     go false false = refl
 
--- the four steps of `scale_to_fit`, which are four arrays of four apart
+-- the four steps of `scale_to_fit`, one after another
 four-steps : (floor b₁ b₂ b₃ b₄ d₁ d₂ d₃ d₄ : Float)
     → step floor b₄ d₄ (step floor b₃ d₃ (step floor b₂ d₂ (step floor b₁ d₁ 1f)))
     ≡ walk floor 1f (b₁ ∷ b₂ ∷ b₃ ∷ b₄ ∷ []) (d₁ ∷ d₂ ∷ d₃ ∷ d₄ ∷ [])

@@ -1,7 +1,7 @@
 -- What the Rust's loops come to: a loop that fills an array of four by the rows of the quad is a map over the rows, one
 -- that fills an array from the start fills it whole, and two loops whose bodies are the same are the same. Assumes
 -- nothing.
-use mathlib.Core.Path.{_≡_, refl, sym, ap, ap₂, _∙_}
+use mathlib.Core.Path.{_≡_, refl, sym, ap, _∙_}
 use mathlib.Core.Bool.{Bool, true, false, cond}
 use mathlib.Core.List.{List, [], _∷_, map}
 use Prim.Native.Nat.{ℕ, zero, suc, _+_}
@@ -30,11 +30,6 @@ by-rows g = refl
 pub by-places : (h : Float → Float) (d : List Float) → length d ≡ 4
     → forUpTo 4 (λ i m. set m i (h (d ! i))) (replicate 4 0f) ≡ map h d
 by-places h d e = ap (map h) (sym (four d e))
-
--- what is the same of each is the same of all
-pub map-same : {A B : Type 0} {f g : A → B} → ((a : A) → f a ≡ g a) → (l : List A) → map f l ≡ map g l
-map-same h [] = refl
-map-same h (a ∷ l) = ap₂ _∷_ (h a) (map-same h l)
 
 -- equal bodies
 pub same-body : {S : Type 0} (f g : ℕ → S → S) → ((i : ℕ) (s : S) → f i s ≡ g i s)
@@ -78,14 +73,6 @@ by-any-rows g rows =
     (λ i m. ap (set m i) (sym (map-past g rows i))) n 0 (replicate n 0f)
     ∙ filled-from (replicate n 0f) (map g rows) (g []) (length-map rows g ∙ sym many) n 0 (omega (arith, many))
     (replicate n 0f) refl
-
--- three of something are its three
-pub three : {A : Type 0} (d : A) (m : List A) → length m ≡ 3 → m ≡ getD m 0 d ∷ getD m 1 d ∷ getD m 2 d ∷ []
-three d (a ∷ b ∷ c ∷ []) h = refl
-three d [] h = let no : ⊥ = omega arith in absurd no
-three d (a ∷ []) h = let no : ⊥ = omega arith in absurd no
-three d (a ∷ b ∷ []) h = let no : ⊥ = omega arith in absurd no
-three d (a ∷ b ∷ c ∷ e ∷ m) h = let no : ⊥ = omega arith in absurd no
 
 -- an array that is overwritten from one of its length is made of that
 pub overwritten : {A B : Type 0} (g : B → A) (xs : List A) (ys : List B) → length xs ≡ length ys

@@ -10,6 +10,7 @@ use lib.Dec.{ltb}
 use lib.ListN.{length, set, replicate}
 use lib.Ieee.{Float, binary32}
 use lib.Ieee.Fits.{add-fits}
+use Rattle.general.proofs.Lists.{map-same}
 use Rattle.binary32.specs.Arithmetic.{_+f_, _*f_, 0f}
 use Rattle.binary32.proofs.Magnitude.{Finite}
 use Rattle.general.specs.Each.{Each}
@@ -26,7 +27,7 @@ use Rattle.rust_text.specs.Numbers.{sanitise}
 use Rattle.rust_text.specs.State.{MIXER_X}
 use Rattle.rust_text.specs.MixerN.{Mixer, newN, quadX, mixN, achievedWrench}
 use Rattle.rust_text.proofs.Numbers.{sanitise-is}
-use Rattle.rust_text.proofs.Loops.{overwritten, map-same}
+use Rattle.rust_text.proofs.Loops.{overwritten}
 use Rattle.rust_text.proofs.Plain.{excess-taken}
 use Rattle.rust_text.proofs.Lowered.{end-is}
 

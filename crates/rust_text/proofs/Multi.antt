@@ -1,6 +1,7 @@
 -- The Rust's mixer of any rows, `hex_x` and `octo_coax` are document 01's. Assumes nothing.
 use mathlib.Core.Path.{_≡_, refl, _∙_}
 use mathlib.Core.List.{List}
+use Rattle.general.proofs.Lists.{map-same}
 use Rattle.rules.specs.Rows.{Row, hexRows, octoRows}
 use Rattle.rules.specs.Plain.{rawSum}
 use Rattle.rules.specs.Multi.{wrenchMotors}
@@ -9,7 +10,7 @@ use Rattle.multi.specs.declared.Wrench.{Wrench}
 use Rattle.rust_text.specs.Numbers.{clamp01Of001}
 use Rattle.rust_text.specs.Multi.{mixM, hexX, octoCoax}
 use Rattle.rust_text.proofs.Numbers.{clamp01-of-001-is}
-use Rattle.rust_text.proofs.Loops.{by-any-rows, map-same}
+use Rattle.rust_text.proofs.Loops.{by-any-rows}
 
 pub mix-of-001-is : (rows : List Row) (w : Wrench) → mixM rows w ≡ motorsOf w rows
 unfolding mixM wrenchMotors rawSum

@@ -9,6 +9,7 @@ use borrow.Author.Tests.{ltb-true, ltb-false, le-leb, lt-leb}
 use lib.Dec.{eqb, ltb, leb}
 use lib.ListN.{length, getD, set, replicate, length-set}
 use lib.Ieee.{Float}
+use Rattle.general.proofs.Lists.{map-same}
 use Rattle.binary32.specs.Arithmetic.{_+f_, _*f_, 0f, 1f}
 use Rattle.number.specs.Treat.{treated, limited, floorClamp}
 use Rattle.fit.specs.Fit.{fitScale}
@@ -22,7 +23,7 @@ use Rattle.rust_text.specs.Numbers.{sanitise, clampFloor}
 use Rattle.rust_text.specs.State.{Quad, MIXER_X, answered, storeMotors, storeScale}
 use Rattle.rust_text.specs.RotorOut.{allFour, matrix, solvedInto, allButOne, threeOfFour, mixRotorOut}
 use Rattle.rust_text.proofs.Numbers.{sanitise-is, limited-is, clamp-floor-is, tilt-clamp}
-use Rattle.rust_text.proofs.Loops.{by-rows, map-same, same-body, set-if}
+use Rattle.rust_text.proofs.Loops.{by-rows, same-body, set-if}
 use Rattle.rust_text.proofs.Fit.{scale-to-fit-is}
 use Rattle.rust_text.proofs.Solve.{optional, solve3-is}
 

@@ -9,13 +9,13 @@ use lib.ListN.{length}
 use lib.Ieee.{Float, nan, binary32, fits, lt}
 use lib.Ieee.Fits.{add-fits}
 use lib.Ieee.Scale.{finite}
+use Rattle.general.proofs.Four.{three}
 use Rattle.binary32.specs.Arithmetic.{0f, small, absolute}
 use Rattle.binary32.proofs.Masked.{masked-absolute-binary32}
 use Rattle.solve.specs.Solve.{element, determinant, singular, cramer, solution}
 use Rattle.solve.specs.declared.Solution.{Solution}
 use Rattle.rust_text.specs.Numbers.{libmFabsf}
 use Rattle.rust_text.specs.Solve.{det3, solve3}
-use Rattle.rust_text.proofs.Loops.{three}
 
 pub det3-is : (a : List (List Float)) → det3 a ≡ determinant (element a)
 unfolding det3

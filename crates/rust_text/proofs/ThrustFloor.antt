@@ -3,6 +3,7 @@ use mathlib.Core.Path.{_≡_, refl, _∙_}
 use mathlib.Core.List.{List, map}
 use lib.ListN.{length}
 use lib.Ieee.{Float}
+use Rattle.general.proofs.Lists.{map-same}
 use Rattle.binary32.specs.Arithmetic.{_+f_, _*f_}
 use Rattle.number.specs.Treat.{limited}
 use Rattle.rules.specs.Rows.{quadRows}
@@ -13,7 +14,7 @@ use Rattle.rust_text.specs.Numbers.{sanitise, clampFloor}
 use Rattle.rust_text.specs.State.{Quad, answered, storeMotors, storeScale}
 use Rattle.rust_text.specs.ThrustFloor.{torqueDeltas, scaledOver, mixThrustFloor}
 use Rattle.rust_text.proofs.Numbers.{sanitise-is, limited-is, clamp-floor-is}
-use Rattle.rust_text.proofs.Loops.{by-rows, by-places, map-same}
+use Rattle.rust_text.proofs.Loops.{by-rows, by-places}
 use Rattle.rust_text.proofs.Fit.{torque-scale-is}
 
 pub torque-deltas-are : (r p y : Float) → torqueDeltas r p y ≡ map (delta r p y) quadRows
