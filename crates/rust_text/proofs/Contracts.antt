@@ -31,7 +31,7 @@ use Rattle.rust_text.specs.Airmode.{mixAirmode}
 use Rattle.rust_text.specs.RotorOut.{mixRotorOut}
 use Rattle.rust_text.specs.Torque.{motorsToTorqueSigns}
 use Rattle.rust_text.specs.MixerN.{Mixer, newN, countOf, quadX, mixN, achievedWrench}
-use Rattle.rust_text.specs.Multi.{mixM, hexX, octoCoax}
+use Rattle.rust_text.specs.Multi.{WrenchM, mixM, hexX, octoCoax}
 use Rattle.rust_text.proofs.Numbers.{clamp01-of-001-is}
 use Rattle.rust_text.proofs.Plain.{mix-is}
 use Rattle.rust_text.proofs.ThrustFloor.{mix-thrust-floor-is}
@@ -117,14 +117,18 @@ frame-achieved-wrench self motors e = e ∙ sym (achieved-wrench-is (frameOf sel
 
 -- ---- 001
 
+-- our wrench as the Rust has it
+abbrev pub wrenchOf : Wrench → WrenchM
+wrenchOf w = record { thrust = w .thrust; roll = w .roll; pitch = w .pitch; yaw = w .yaw }
+
 pub multi-clamp01 : (x : Float) {r : Float} → r ≡ unitClamp x → r ≡ clamp01Of001 x
 multi-clamp01 x e = e ∙ sym (clamp01-of-001-is x)
 
 -- of a run that is not refused the outputs are the Rust's for its rows
 pub multi-mix : (run : List Float) (w : Wrench) (before : List Float) (answer : MixAnswer) (after : List Float)
     → rowsRefused (length run) (length before) ≡ false
-    → RowsMixed run w before answer after → after ≡ mixM (rowsOf run) w
-multi-mix run w before answer after h g = g .output ∙ rw h (sym (mix-of-001-is (rowsOf run) w))
+    → RowsMixed run w before answer after → after ≡ mixM (rowsOf run) (wrenchOf w)
+multi-mix run w before answer after h g = g .output ∙ rw h (sym (mix-of-001-is (rowsOf run) (wrenchOf w)))
 
 pub multi-hex-x : {r : List Float} → r ≡ runOf hexRows → rowsOf r ≡ hexX
 multi-hex-x e = ap rowsOf e ∙ hex-rows ∙ sym hex-x-is
@@ -132,8 +136,8 @@ multi-hex-x e = ap rowsOf e ∙ hex-rows ∙ sym hex-x-is
 pub multi-octo-coax : {r : List Float} → r ≡ runOf octoRows → rowsOf r ≡ octoCoax
 multi-octo-coax e = ap rowsOf e ∙ octo-rows ∙ sym octo-coax-is
 
-pub multi-mix-hex-x : (w : Wrench) {m : List Float} → Allocated hexRows w m → m ≡ mixM hexX w
-multi-mix-hex-x w g = g .is ∙ sym (rw hex-x-is (mix-of-001-is hexRows w))
+pub multi-mix-hex-x : (w : Wrench) {m : List Float} → Allocated hexRows w m → m ≡ mixM hexX (wrenchOf w)
+multi-mix-hex-x w g = g .is ∙ sym (rw hex-x-is (mix-of-001-is hexRows (wrenchOf w)))
 
-pub multi-mix-octo-coax : (w : Wrench) {m : List Float} → Allocated octoRows w m → m ≡ mixM octoCoax w
-multi-mix-octo-coax w g = g .is ∙ sym (rw octo-coax-is (mix-of-001-is octoRows w))
+pub multi-mix-octo-coax : (w : Wrench) {m : List Float} → Allocated octoRows w m → m ≡ mixM octoCoax (wrenchOf w)
+multi-mix-octo-coax w g = g .is ∙ sym (rw octo-coax-is (mix-of-001-is octoRows (wrenchOf w)))

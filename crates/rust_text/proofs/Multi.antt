@@ -5,14 +5,13 @@ use Rattle.general.proofs.Lists.{map-same}
 use Rattle.rules.specs.Rows.{Row, hexRows, octoRows}
 use Rattle.rules.specs.Plain.{rawSum}
 use Rattle.rules.specs.Multi.{wrenchMotors}
-use Rattle.multi.specs.Wrench.{motorsOf}
-use Rattle.multi.specs.declared.Wrench.{Wrench}
 use Rattle.rust_text.specs.Numbers.{clamp01Of001}
-use Rattle.rust_text.specs.Multi.{mixM, hexX, octoCoax}
+use Rattle.rust_text.specs.Multi.{WrenchM, mixM, hexX, octoCoax}
 use Rattle.rust_text.proofs.Numbers.{clamp01-of-001-is}
 use Rattle.rust_text.proofs.Loops.{by-any-rows}
 
-pub mix-of-001-is : (rows : List Row) (w : Wrench) → mixM rows w ≡ motorsOf w rows
+pub mix-of-001-is : (rows : List Row) (w : WrenchM)
+    → mixM rows w ≡ wrenchMotors rows (w .thrust) (w .roll) (w .pitch) (w .yaw)
 unfolding mixM wrenchMotors rawSum
 mix-of-001-is rows w =
     by-any-rows (λ row. clamp01Of001 (rawSum (w .thrust) (w .roll) (w .pitch) (w .yaw) row)) rows

@@ -5,16 +5,19 @@ use lib.ListN.{length, set, replicate}
 use lib.Ieee.{Float}
 use Rattle.binary32.specs.Arithmetic.{_+f_, _*f_, 0f, 1f}
 use Rattle.rules.specs.Rows.{1/2, -1f, -1/2, 866/1000, -866/1000, 707/1000, -707/1000}
-use Rattle.multi.specs.declared.Wrench.{Wrench}
 use Rattle.rust_text.specs.Forms.{_!_, _!!_, forUpTo}
 use Rattle.rust_text.specs.Numbers.{clamp01Of001}
 
--- The struct's four fields are those of our own, whose record stands for it.
 -- 001:23: pub struct Wrench {
 -- 001:25:     pub thrust: f32,
 -- 001:27:     pub roll: f32,
 -- 001:29:     pub pitch: f32,
 -- 001:31:     pub yaw: f32,
+pub record WrenchM : Type 0 where
+  pub thrust : Float
+  pub roll : Float
+  pub pitch : Float
+  pub yaw : Float
 
 -- A mixer is its rows; M is how many there are.
 -- 001:37: pub struct Mixer<const M: usize> {
@@ -26,7 +29,7 @@ abbrev pub newM : List (List Float) → List (List Float)
 newM rows = rows
 
 -- 001:63:     pub fn mix(&self, w: Wrench) -> [f32; M] {
-unfoldable pub mixM : List (List Float) → Wrench → List Float
+unfoldable pub mixM : List (List Float) → WrenchM → List Float
 mixM rows w =
     -- 001:64:         let mut out = [0.0f32; M];
     let out = replicate (length rows) 0f in
