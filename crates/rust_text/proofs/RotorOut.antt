@@ -60,14 +60,15 @@ nothing-placed f =
 both-placed : (f : ℕ) (singular : Bool) (x y : List Float)
     → let answer : List Float → Solution =
     λ z. cond singular (record { solved = false; x = 0f ∷ 0f ∷ 0f ∷ [] }) (record { solved = true; x = z }) in
-    solvedInto (healthy f) (optional (answer x)) (optional (answer y))
+    solvedInto (healthy f) (replicate 4 0f) (replicate 4 0f) (optional (answer x)) (optional (answer y))
     ≡ (placed f (answer x .x), placed f (answer y .x))
 unfolding solvedInto placed
 both-placed f true x y = rw (nothing-placed f)
 both-placed f false x y = refl
 
 solved-placed : (f : ℕ) (v w : List Float)
-    → solvedInto (healthy f) (optional (solution (equations f) v)) (optional (solution (equations f) w))
+    → solvedInto (healthy f) (replicate 4 0f) (replicate 4 0f) (optional (solution (equations f) v))
+    (optional (solution (equations f) w))
     ≡ (placed f (solution (equations f) v .x), placed f (solution (equations f) w .x))
 unfolding solution
 solved-placed f v w = both-placed f (singular (determinant (element (equations f)))) _ _

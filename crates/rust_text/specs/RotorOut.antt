@@ -42,14 +42,11 @@ matrix h =
     -- 000:470:             [MIXER_X[h[0]][2], MIXER_X[h[1]][2], MIXER_X[h[2]][2]],
     ∷ (MIXER_X !! place h 0 ! 2 ∷ MIXER_X !! place h 1 ! 2 ∷ MIXER_X !! place h 2 ! 2 ∷ []) ∷ []
 
--- base and delta, given what the two calls of `solve3` returned
-unfoldable pub solvedInto : List ℕ → Option (List Float) → Option (List Float) → List Float × List Float
+-- base and delta after the `if let`, whose two answers of `solve3` these are
+unfoldable pub solvedInto : List ℕ → List Float → List Float → Option (List Float) → Option (List Float)
+    → List Float × List Float
 -- 000:483:         if let (Some(b), Some(d)) = (solve3(a, [c, 0.0, 0.0]), solve3(a, [0.0, r, p])) {
-solvedInto h (some b) (some d) =
-    -- 000:481:         let mut base = [0.0_f32; 4];
-    let base = replicate 4 0f in
-    -- 000:482:         let mut delta = [0.0_f32; 4];
-    let delta = replicate 4 0f in
+solvedInto h base delta (some b) (some d) =
     -- 000:484:             for k in 0..3 {
     forUpTo 3 (λ k both.
     -- 000:485:                 base[h[k]] = b[k];
@@ -57,9 +54,9 @@ solvedInto h (some b) (some d) =
     -- 000:486:                 delta[h[k]] = d[k];
     let delta = set (both .1) (place h k) (d ! k) in
     (base, delta)) (base, delta)
-solvedInto h (some b) none = (replicate 4 0f, replicate 4 0f)
-solvedInto h none (some d) = (replicate 4 0f, replicate 4 0f)
-solvedInto h none none = (replicate 4 0f, replicate 4 0f)
+solvedInto h base delta (some b) none = (base, delta)
+solvedInto h base delta none (some d) = (base, delta)
+solvedInto h base delta none none = (base, delta)
 
 unfoldable pub allButOne : ℕ → Float → Float → List Float → List Float → List Float
 allButOne failed floor s base delta =
@@ -80,13 +77,20 @@ threeOfFour failed floor t r p =
     let h = (failed + 1) % 4 ∷ (failed + 2) % 4 ∷ (failed + 3) % 4 ∷ [] in
     -- 000:466:         let c = 3.0 * t;
     let c = 3f *f t in
-    -- 467 to 470, 481 to 486
+    -- 467 to 470
     let a = matrix h in
-    let both = solvedInto h (solve3 a (c ∷ 0f ∷ 0f ∷ [])) (solve3 a (0f ∷ r ∷ p ∷ [])) in
+    -- 000:481:         let mut base = [0.0_f32; 4];
+    let base = replicate 4 0f in
+    -- 000:482:         let mut delta = [0.0_f32; 4];
+    let delta = replicate 4 0f in
+    -- 483 to 486
+    let both = solvedInto h base delta (solve3 a (c ∷ 0f ∷ 0f ∷ [])) (solve3 a (0f ∷ r ∷ p ∷ [])) in
+    let base = both .0 in
+    let delta = both .1 in
     -- 000:489:         let s = scale_to_fit(&base, &delta, floor);
-    let s = scaleToFit (both .0) (both .1) floor in
+    let s = scaleToFit base delta floor in
     -- 490 to 493
-    allButOne failed floor s (both .0) (both .1)
+    allButOne failed floor s base delta
 
 -- 000:408:     pub fn mix_rotor_out(
 -- 000:409:         &mut self,
