@@ -1,8 +1,8 @@
 -- Every public function that the Rust has too gives what the Rust's text gives: whatever satisfies our contract is the
 -- Rust's answer, by bits, for every f32 and every number. A method of the quad leaves the state that the Rust's leaves,
 -- and the motors in it are those that the Rust's returns. Arrays have the Rust's lengths. What C calls, the crate
--- `exported`, has the same statements in its contracts, of what is lent as it stood before and after, so that these are
--- laws on it too. Assumes nothing.
+-- `exported`, has the same statements in its contracts, of what is lent as it stood before and after, so that each of
+-- these applies to it as it stands. Assumes nothing.
 use mathlib.Core.Path.{_≡_, sym, ap, _∙_}
 use mathlib.Core.Bool.{false}
 use mathlib.Core.List.{List}

@@ -42,7 +42,7 @@ matrix h =
     -- 000:470:             [MIXER_X[h[0]][2], MIXER_X[h[1]][2], MIXER_X[h[2]][2]],
     ∷ (MIXER_X !! place h 0 ! 2 ∷ MIXER_X !! place h 1 ! 2 ∷ MIXER_X !! place h 2 ! 2 ∷ []) ∷ []
 
--- base and delta after the `if let`, whose two answers of `solve3` these are
+-- what base and delta hold after the `if let`; the last two arguments are what its two calls of `solve3` return
 unfoldable pub solvedInto : List ℕ → List Float → List Float → Option (List Float) → Option (List Float)
     → List Float × List Float
 -- 000:483:         if let (Some(b), Some(d)) = (solve3(a, [c, 0.0, 0.0]), solve3(a, [0.0, r, p])) {
