@@ -6,16 +6,16 @@ use Prim.Native.Nat.{ℕ, zero, suc, _+_, _*_, _/_, _^_, _≤_, _<_}
 use native.Mathlib.Nat.{mul-assoc, one-mul, zero-mul, mul-pos, mul-le-mul-right}
 use native.Mathlib.Omega.{arith}
 use mathlib.Core.Bool.{Bool, true, false, not, cond}
-use lib.Dec.{T, ltb}
+use lib.Dec.{T, ltb, lit<}
+use lib.IntN.{pos}
 use lib.Pow.{pow-pos}
-use lib.Ieee.{Float, inf, Format, prec, low, isNan, odd, units, round, le}
+use lib.Ieee.{Float, inf, fin, Format, binary32, binary64, prec, low, isNan, odd, units, round, le}
 use lib.Ieee.Bits.{is-true}
 use lib.Ieee.Exact.{HasValue, odd-sign, round-exact}
 use lib.Ieee.Fits.{round-is, round-fits}
 use lib.Ieee.Order.{drop, kept, round-mono}
 use lib.Ieee.Scale.{grid, overflow, round-same}
 use Rattle.binary32.specs.Whole.{negative, magnitude, over, under}
-use Rattle.binary32.proofs.Tests.{round-nothing}
 use Rattle.binary32.proofs.Magnitude.{Number, Finite, by-finite, held, multiple}
 use Rattle.binary32.proofs.Magnitude.{magnitude-of, magnitude-shifted, finite-under}
 use Rattle.binary32.proofs.Comparison.{le-units}
@@ -97,6 +97,15 @@ over-and-under f x = go (negative x) refl
 
 unfoldable pub roundedTo : Format → ℕ → ℕ → ℕ
 roundedTo f a c = magnitude f (round f false a (c * 2 ^ low f))
+
+nothing-over-one : (f : Format) → round f false 0 1 ≡ fin false 0 (pos 0)
+unfolding round
+nothing-over-one binary32 = refl
+nothing-over-one binary64 = refl
+
+-- nothing, whatever it is divided by, rounds to +0
+round-nothing : (f : Format) (c : ℕ) → 0 < c → round f false 0 c ≡ fin false 0 (pos 0)
+round-nothing f c h = round-same f false 0 c 0 1 h (lit< tt) (zero-mul 1 ∙ sym (zero-mul c)) ∙ nothing-over-one f
 
 pub rounded-nothing : (f : Format) (c : ℕ) → 0 < c → roundedTo f 0 c ≡ 0
 unfolding roundedTo magnitude

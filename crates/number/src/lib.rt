@@ -13,12 +13,24 @@ ghost use Rattle.number.specs.Treat.{treated, clamped, limited, floorCla
 // solver's for a determinant.
 pub const SMALL: f32 = 1.0e-6;
 
-// Whether x is neither a NaN nor an infinity: only then is x - x zero. This is the one test for it; nothing that calls
-// it looks into it.
+// An f32's bits are three fields (IEEE 754-2019, 3.4): 23 bits of digits, over them 8 of the exponent, and the sign.
+const DIGITS: u32 = 0x0080_0000;
+
+const EXPONENTS: u32 = 256;
+
+// The exponent's field with every bit set: of an infinity and of a NaN, and of nothing else.
+const ALL_ONES: u32 = 255;
+
+// Whether x is neither a NaN nor an infinity, by the exponent's field of its bits. The language has no bits of a NaN, so
+// that one is told first, by a comparison that a compiler can leave out again, since the field tells it too (decision
+// 9). This is the one test for it; nothing that calls it looks into it.
 pub fn is_finite(x: f32) -> bool
     ensures { λ r. ⌜ r ≡ finite x ⌝ }
 {
-    x - x == 0.0
+    if is_nan(x) {
+        return false;
+    }
+    f32::to_bits(x) / DIGITS % EXPONENTS != ALL_ONES
 }
 
 // Whether x is a NaN: only a NaN differs from itself.

@@ -1,0 +1,264 @@
+#include "mixes.h"
+
+#include <inttypes.h>
+#include <stdio.h>
+
+#include "flag.h"
+#include "footspandle.h"
+#include "patterns.h"
+#include "rules.h"
+
+#define COUNT(table) (sizeof(table) / sizeof(table)[0])
+
+/* ---- special values --------------------------------------------------------------------------- */
+
+/*
+ * Arguments: both zeros, the least number, numbers of flight, the largest, the infinities, and NaNs, three that are quiet
+ * and three that signal, of either sign and with few and with many digits set.
+ */
+static const uint32_t arguments[] = {
+    0x00000000, 0x80000000, 0x00000001, 0x3e800000, 0x3f800000, 0xbf800000, 0x7f7fffff, 0xff7fffff,
+    0x7f800000, 0xff800000, 0x7fc00000, 0xffc00001, 0x7fffffff, 0x7f800001, 0xff800001, 0xffbfffff,
+};
+
+/* The state's five numbers: a signalling NaN, a number of flight, a quiet NaN, an infinity. The NaNs differ by place. */
+enum { STATE = 5, STORED = 4, STORED_QUICK = 2, STATES = 1024, STATES_QUICK = 32 };
+static const uint32_t stored[STATE][STORED] = {
+    {0x7f800001, 0x3f000000, 0x7fc00000, 0x7f800000}, {0xff800001, 0x3f000000, 0xffc00000, 0xff800000},
+    {0x7fbfffff, 0x3f000000, 0x7fffffff, 0x7f800000}, {0xffbfffff, 0x3f000000, 0xffffffff, 0xff800000},
+    {0x7fa00000, 0x3f000000, 0x7fc00001, 0x7f800000},
+};
+
+/* Rotor-out's rotors: the four, and two numbers by which none is lost. */
+static const size_t rotors[] = {0, 1, 2, 3, 4, SIZE_MAX};
+
+/* The next digit of a number that picks from tables. */
+static size_t digit(uint64_t *number, size_t base) {
+    const size_t next = (size_t)(*number % base);
+    *number /= base;
+    return next;
+}
+
+/* ---- a mix ------------------------------------------------------------------------------------ */
+
+/* A command's numbers: torque, thrust, floor. */
+enum { THRUST = 3, FLOOR = 4, COMMAND = 5 };
+
+typedef void mix(footspandle_quad *state, size_t rotor, const float command[COMMAND]);
+
+static void plain(footspandle_quad *state, size_t rotor, const float command[COMMAND]) {
+    (void)rotor;
+    footspandle_quad_mix(state, command, command[THRUST]);
+}
+
+static void thrust_floor(footspandle_quad *state, size_t rotor, const float command[COMMAND]) {
+    (void)rotor;
+    footspandle_quad_mix_thrust_floor(state, command, command[THRUST], command[FLOOR]);
+}
+
+static void priority(footspandle_quad *state, size_t rotor, const float command[COMMAND]) {
+    (void)rotor;
+    footspandle_quad_mix_priority(state, command, command[THRUST], command[FLOOR]);
+}
+
+static void airmode(footspandle_quad *state, size_t rotor, const float command[COMMAND]) {
+    (void)rotor;
+    footspandle_quad_mix_airmode(state, command, command[THRUST], command[FLOOR]);
+}
+
+static void rotor_out(footspandle_quad *state, size_t rotor, const float command[COMMAND]) {
+    footspandle_quad_mix_rotor_out(state, rotor, command, command[THRUST], command[FLOOR]);
+}
+
+/* ---- a block: one command, from every state --------------------------------------------------- */
+
+struct input {
+    uint32_t command[COMMAND];
+    uint32_t state[STATE];
+    size_t rotor;
+};
+
+static mix *mixed;
+static int has_floor, has_rotor;
+static footspandle_quad states[STATES];
+static struct input at; /* the command at hand; its state is filled in for a call that raises the flag */
+static float command[COMMAND];
+static int invalid_by_the_rules;
+
+static void make_states(size_t values) {
+    for (uint64_t n = 0; n < STATES; n++) {
+        uint64_t rest = n;
+        uint32_t bits[STATE];
+        for (int i = 0; i < STATE; i++) {
+            bits[i] = stored[i][digit(&rest, values)];
+        }
+        memcpy(&states[n], bits, sizeof bits);
+    }
+}
+
+static uint64_t commands(void) {
+    uint64_t count = has_rotor ? COUNT(rotors) : 1;
+    for (int i = 0; i < (has_floor ? COMMAND : FLOOR); i++) {
+        count *= COUNT(arguments);
+    }
+    return count;
+}
+
+/* Whether the command's numbers alone raise the flag, for each choice of the state's numbers that are finite: asked once. */
+enum { NOT_ASKED = -1 };
+static int numbers_raise[1 << STATE];
+
+static void begin(uint64_t block) {
+    for (int i = 0; i < COMMAND; i++) {
+        at.command[i] = i < FLOOR || has_floor ? arguments[digit(&block, COUNT(arguments))] : 0;
+    }
+    at.rotor = rotors[has_rotor ? digit(&block, COUNT(rotors)) : 0];
+    memcpy(command, at.command, sizeof command);
+    invalid_by_the_rules = mixed == plain && plain_is_invalid(command, command[THRUST]);
+    for (int i = 0; i < 1 << STATE; i++) {
+        numbers_raise[i] = NOT_ASKED;
+    }
+}
+
+static void call(uint64_t k) {
+    footspandle_quad state = states[k];
+    mixed(&state, at.rotor, command);
+}
+
+/* ---- why a call raises the flag --------------------------------------------------------------- */
+
+enum why { BY_THE_RULES, BY_NUMBERS, BY_SIGNALLING, BY_QUIET_OR_INFINITE, WHYS };
+static const char *const because[WHYS] = {
+    "by the rules' own arithmetic",
+    "by numbers: with +0 for each NaN and infinity it is raised too",
+    "by a signalling NaN",
+    "by a quiet NaN or an infinity",
+};
+static uint64_t of_why[WHYS];
+static struct input first[WHYS];
+static const void *first_at[WHYS];
+
+static struct input other;
+
+static void call_other(uint64_t k) {
+    footspandle_quad state;
+    float numbers[COMMAND];
+    (void)k;
+    memcpy(&state, other.state, sizeof state);
+    memcpy(numbers, other.command, sizeof numbers);
+    mixed(&state, other.rotor, numbers);
+}
+
+/* Whether the call at hand raises the flag with +0 in the place of each number of this kind and those after it. */
+static int raises_without(enum kind kind) {
+    other = at;
+    for (int i = 0; i < COMMAND; i++) {
+        other.command[i] = kind_of(at.command[i]) >= kind ? 0 : at.command[i];
+    }
+    for (int i = 0; i < STATE; i++) {
+        other.state[i] = kind_of(at.state[i]) >= kind ? 0 : at.state[i];
+    }
+    return one_raises(call_other, 0);
+}
+
+static int numbers_alone_raise(void) {
+    unsigned finite = 0;
+    for (int i = 0; i < STATE; i++) {
+        finite |= (unsigned)(kind_of(at.state[i]) == FINITE) << i;
+    }
+    if (numbers_raise[finite] == NOT_ASKED) {
+        numbers_raise[finite] = raises_without(INFINITE);
+    }
+    return numbers_raise[finite];
+}
+
+static enum why why(void) {
+    if (invalid_by_the_rules) {
+        return BY_THE_RULES;
+    }
+    if (numbers_alone_raise()) {
+        return BY_NUMBERS;
+    }
+    return raises_without(SIGNALLING_NAN) ? BY_QUIET_OR_INFINITE : BY_SIGNALLING;
+}
+
+static void raises(uint64_t k) {
+    memcpy(at.state, &states[k], sizeof at.state);
+    const enum why w = why();
+    if (of_why[w]++ == 0) {
+        first[w] = at;
+        first_at[w] = stops_at(call, k);
+    }
+}
+
+/* ---- what is printed -------------------------------------------------------------------------- */
+
+static void print_numbers(const char *name, const uint32_t *bits, int count) {
+    printf(" %s", name);
+    for (int i = 0; i < count; i++) {
+        printf(" %08" PRIx32, bits[i]);
+    }
+}
+
+static void print_why(enum why w) {
+    printf("    %" PRIu64 " %s, first", of_why[w], because[w]);
+    print_numbers("torque", first[w].command, 3);
+    print_numbers("thrust", first[w].command + THRUST, 1);
+    if (has_floor) {
+        print_numbers("floor", first[w].command + FLOOR, 1);
+    }
+    if (has_rotor) {
+        printf(" rotor %zu", first[w].rotor);
+    }
+    print_numbers("state", first[w].state, STATE);
+    if (first_at[w] != NULL) {
+        printf(", at %p", first_at[w]);
+    }
+    printf("\n");
+}
+
+/* How many calls the rules' own arithmetic makes raise the flag. */
+static uint64_t expected_of(const struct calls *calls) {
+    uint64_t count = 0;
+    for (uint64_t block = 0; block < calls->blocks; block++) {
+        begin(block);
+        count += invalid_by_the_rules ? calls->in_block : 0;
+    }
+    return count;
+}
+
+static int count(const char *name, mix *function, int takes_floor, int takes_rotor, int quick) {
+    mixed = function;
+    has_floor = takes_floor;
+    has_rotor = takes_rotor;
+    make_states(quick ? STORED_QUICK : STORED);
+    const struct calls calls = {commands(), quick ? STATES_QUICK : STATES, begin, call, raises};
+    const uint64_t raised = raised_by(&calls);
+    printf("%s: %" PRIu64 " calls, %" PRIu64 " raise it\n", name, calls.blocks * calls.in_block, raised);
+    for (int w = 0; w < WHYS; w++) {
+        if (of_why[w] != 0) {
+            print_why(w);
+        }
+    }
+    return of_why[BY_QUIET_OR_INFINITE] == 0 && (function != plain || raised == expected_of(&calls));
+}
+
+int count_mix(int quick) {
+    return count("mix", plain, 0, 0, quick);
+}
+
+int count_mix_thrust_floor(int quick) {
+    return count("mix_thrust_floor", thrust_floor, 1, 0, quick);
+}
+
+int count_mix_priority(int quick) {
+    return count("mix_priority", priority, 1, 0, quick);
+}
+
+int count_mix_airmode(int quick) {
+    return count("mix_airmode", airmode, 1, 0, quick);
+}
+
+int count_mix_rotor_out(int quick) {
+    return count("mix_rotor_out", rotor_out, 1, 1, quick);
+}

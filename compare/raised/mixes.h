@@ -1,0 +1,16 @@
+/* The five mixes of the quad. */
+#ifndef MIXES_H
+#define MIXES_H
+
+/*
+ * Each tries every combination of special values in every argument and in the state, prints how many calls raise the
+ * flag and why, and answers whether that is as it has to be. No call raises it by a quiet NaN or an infinity; and plain
+ * raises it exactly where its own rule does. With quick a number of the state is one of two, and else one of four.
+ */
+int count_mix(int quick);
+int count_mix_thrust_floor(int quick);
+int count_mix_priority(int quick);
+int count_mix_airmode(int quick);
+int count_mix_rotor_out(int quick);
+
+#endif
