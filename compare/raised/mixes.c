@@ -21,12 +21,14 @@ static const uint32_t arguments[] = {
     0x7f800000, 0xff800000, 0x7fc00000, 0xffc00001, 0x7fffffff, 0x7f800001, 0xff800001, 0xffbfffff,
 };
 
-/* The state's five numbers: a signalling NaN, a number of flight, a quiet NaN, an infinity. The NaNs differ by place. */
-enum { STATE = 5, STORED = 4, STORED_QUICK = 2, STATES = 1024, STATES_QUICK = 32 };
+/*
+ * States: a signalling NaN, a quiet one or an infinity in each of five places, which differ by place; and a fresh state,
+ * which is the last.
+ */
+enum { STATE = 5, STORED = 3, STORED_QUICK = 2, STATES = 3 * 3 * 3 * 3 * 3 + 1, STATES_QUICK = 2 * 2 * 2 * 2 * 2 + 1 };
 static const uint32_t stored[STATE][STORED] = {
-    {0x7f800001, 0x3f000000, 0x7fc00000, 0x7f800000}, {0xff800001, 0x3f000000, 0xffc00000, 0xff800000},
-    {0x7fbfffff, 0x3f000000, 0x7fffffff, 0x7f800000}, {0xffbfffff, 0x3f000000, 0xffffffff, 0xff800000},
-    {0x7fa00000, 0x3f000000, 0x7fc00001, 0x7f800000},
+    {0x7f800001, 0x7fc00000, 0x7f800000}, {0xff800001, 0xffc00000, 0xff800000}, {0x7fbfffff, 0x7fffffff, 0x7f800000},
+    {0xffbfffff, 0xffffffff, 0xff800000}, {0x7fa00000, 0x7fc00001, 0x7f800000},
 };
 
 /* Rotor-out's rotors: the four, and two numbers by which none is lost. */
@@ -85,8 +87,8 @@ static struct input at; /* the command at hand; its state is filled in for a cal
 static float command[COMMAND];
 static int invalid_by_the_rules;
 
-static void make_states(size_t values) {
-    for (uint64_t n = 0; n < STATES; n++) {
+static void make_states(size_t values, size_t count) {
+    for (uint64_t n = 0; n < count - 1; n++) {
         uint64_t rest = n;
         uint32_t bits[STATE];
         for (int i = 0; i < STATE; i++) {
@@ -94,6 +96,7 @@ static void make_states(size_t values) {
         }
         memcpy(&states[n], bits, sizeof bits);
     }
+    footspandle_quad_new(&states[count - 1]);
 }
 
 static uint64_t commands(void) {
@@ -104,9 +107,9 @@ static uint64_t commands(void) {
     return count;
 }
 
-/* Whether the command's numbers alone raise the flag, for each choice of the state's numbers that are finite: asked once. */
+/* Whether the command's numbers alone raise the flag, from a state of zeros and from a fresh one: asked once for each. */
 enum { NOT_ASKED = -1 };
-static int numbers_raise[1 << STATE];
+static int numbers_raise[2];
 
 static void begin(uint64_t block) {
     for (int i = 0; i < COMMAND; i++) {
@@ -115,9 +118,7 @@ static void begin(uint64_t block) {
     at.rotor = rotors[has_rotor ? digit(&block, COUNT(rotors)) : 0];
     memcpy(command, at.command, sizeof command);
     invalid_by_the_rules = mixed == plain && plain_is_invalid(command, command[THRUST]);
-    for (int i = 0; i < 1 << STATE; i++) {
-        numbers_raise[i] = NOT_ASKED;
-    }
+    numbers_raise[0] = numbers_raise[1] = NOT_ASKED;
 }
 
 static void call(uint64_t k) {
@@ -162,14 +163,11 @@ static int raises_without(enum kind kind) {
 }
 
 static int numbers_alone_raise(void) {
-    unsigned finite = 0;
-    for (int i = 0; i < STATE; i++) {
-        finite |= (unsigned)(kind_of(at.state[i]) == FINITE) << i;
+    const int fresh = kind_of(at.state[0]) == FINITE;
+    if (numbers_raise[fresh] == NOT_ASKED) {
+        numbers_raise[fresh] = raises_without(INFINITE);
     }
-    if (numbers_raise[finite] == NOT_ASKED) {
-        numbers_raise[finite] = raises_without(INFINITE);
-    }
-    return numbers_raise[finite];
+    return numbers_raise[fresh];
 }
 
 static enum why why(void) {
@@ -231,8 +229,8 @@ static int count(const char *name, mix *function, int takes_floor, int takes_rot
     mixed = function;
     has_floor = takes_floor;
     has_rotor = takes_rotor;
-    make_states(quick ? STORED_QUICK : STORED);
     const struct calls calls = {commands(), quick ? STATES_QUICK : STATES, begin, call, raises};
+    make_states(quick ? STORED_QUICK : STORED, calls.in_block);
     const uint64_t raised = raised_by(&calls);
     printf("%s: %" PRIu64 " calls, %" PRIu64 " raise it\n", name, calls.blocks * calls.in_block, raised);
     for (int w = 0; w < WHYS; w++) {
