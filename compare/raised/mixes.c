@@ -13,8 +13,8 @@
 /* ---- special values --------------------------------------------------------------------------- */
 
 /*
- * Arguments: both zeros, the least number, numbers of flight, the largest, the infinities, and NaNs, three that are quiet
- * and three that signal, of either sign and with few and with many digits set.
+ * Arguments: both zeros, the least number, numbers of flight, the largest, the infinities, and NaNs, three that are
+ * quiet and three that signal, of either sign and with few and with many digits set.
  */
 static const uint32_t arguments[] = {
     0x00000000, 0x80000000, 0x00000001, 0x3e800000, 0x3f800000, 0xbf800000, 0x7f7fffff, 0xff7fffff,
@@ -22,8 +22,8 @@ static const uint32_t arguments[] = {
 };
 
 /*
- * States: a signalling NaN, a quiet one or an infinity in each of five places, which differ by place; and a fresh state,
- * which is the last.
+ * States: a signalling NaN, a quiet one or an infinity in each of five places, which differ by place; and last a fresh
+ * state.
  */
 enum { STATE = 5, STORED = 3, STORED_QUICK = 2, STATES = 3 * 3 * 3 * 3 * 3 + 1, STATES_QUICK = 2 * 2 * 2 * 2 * 2 + 1 };
 static const uint32_t stored[STATE][STORED] = {
@@ -107,7 +107,7 @@ static uint64_t commands(void) {
     return count;
 }
 
-/* Whether the command's numbers alone raise the flag, from a state of zeros and from a fresh one: asked once for each. */
+/* Whether the command's numbers alone raise the flag, from a state of zeros and from a fresh one: each asked once. */
 enum { NOT_ASKED = -1 };
 static int numbers_raise[2];
 

@@ -21,9 +21,9 @@ const EXPONENTS: u32 = 256;
 // The exponent's field with every bit set: of an infinity and of a NaN, and of nothing else.
 const ALL_ONES: u32 = 255;
 
-// Whether x is neither a NaN nor an infinity, by the exponent's field of its bits. The language has no bits of a NaN, so
-// that one is told first, by a comparison that a compiler can leave out again, since the field tells it too (decision
-// 9). This is the one test for it; nothing that calls it looks into it.
+// Whether x is neither a NaN nor an infinity, by the exponent's field of its bits. The language has no bits of a NaN,
+// so that one is told first, by a comparison that a compiler can leave out again, since the field tells it too
+// (decisions 130 and 131). This is the one test for it; nothing that calls it looks into it.
 pub fn is_finite(x: f32) -> bool
     ensures { λ r. ⌜ r ≡ finite x ⌝ }
 {
