@@ -87,6 +87,10 @@ static struct input at; /* the command at hand; its state is filled in for a cal
 static float command[COMMAND];
 static int invalid_by_the_rules;
 
+/* Why a call can raise the flag, and which of it was seen of the command at hand. */
+enum why { BY_THE_RULES, BY_NUMBERS, BY_SIGNALLING, BY_QUIET_OR_INFINITE, WHYS };
+static int seen[WHYS];
+
 static void make_states(size_t values, size_t count) {
     for (uint64_t n = 0; n < count - 1; n++) {
         uint64_t rest = n;
@@ -119,6 +123,7 @@ static void begin(uint64_t block) {
     memcpy(command, at.command, sizeof command);
     invalid_by_the_rules = mixed == plain && plain_is_invalid(command, command[THRUST]);
     numbers_raise[0] = numbers_raise[1] = NOT_ASKED;
+    memset(seen, 0, sizeof seen);
 }
 
 static void call(uint64_t k) {
@@ -128,7 +133,6 @@ static void call(uint64_t k) {
 
 /* ---- why a call raises the flag --------------------------------------------------------------- */
 
-enum why { BY_THE_RULES, BY_NUMBERS, BY_SIGNALLING, BY_QUIET_OR_INFINITE, WHYS };
 static const char *const because[WHYS] = {
     "by the rules' own arithmetic",
     "by numbers: with +0 for each NaN and infinity it is raised too",
@@ -137,7 +141,26 @@ static const char *const because[WHYS] = {
 };
 static uint64_t of_why[WHYS];
 static struct input first[WHYS];
-static const void *first_at[WHYS];
+
+/*
+ * The instructions at which a debugger stops, each with how many commands; the last place is for any more. Only every
+ * 16th command is asked for its own, since a stop takes as long as thousands of calls.
+ */
+enum { PLACES = 8, ASKED = 16 };
+static uint64_t commands_of[WHYS];
+static struct {
+    const void *at;
+    uint64_t commands;
+} stops[WHYS][PLACES];
+
+static void note_stop(enum why w, const void *at_instruction) {
+    int place = 0;
+    while (place < PLACES - 1 && stops[w][place].commands != 0 && stops[w][place].at != at_instruction) {
+        place++;
+    }
+    stops[w][place].at = at_instruction;
+    stops[w][place].commands++;
+}
 
 static struct input other;
 
@@ -185,8 +208,11 @@ static void raises(uint64_t k) {
     const enum why w = why();
     if (of_why[w]++ == 0) {
         first[w] = at;
-        first_at[w] = stops_at(call, k);
     }
+    if (!seen[w] && commands_of[w]++ % ASKED == 0) {
+        note_stop(w, stops_at(call, k));
+    }
+    seen[w] = 1;
 }
 
 /* ---- what is printed -------------------------------------------------------------------------- */
@@ -209,10 +235,13 @@ static void print_why(enum why w) {
         printf(" rotor %zu", first[w].rotor);
     }
     print_numbers("state", first[w].state, STATE);
-    if (first_at[w] != NULL) {
-        printf(", at %p", first_at[w]);
-    }
     printf("\n");
+    for (int place = 0; place < PLACES; place++) {
+        if (stops[w][place].at != NULL) {
+            printf("        %" PRIu64 " of every %dth command, at %p\n", stops[w][place].commands, ASKED,
+                   stops[w][place].at);
+        }
+    }
 }
 
 /* How many calls the rules' own arithmetic makes raise the flag. */
