@@ -44,11 +44,9 @@ void wrong_2_footspandle_quad_mix(footspandle_quad *state, const float torque[3]
     footspandle_quad_mix(state, torque, thrust);
 }
 
-/* By its state, and only from one state of all. */
+/* By its state alone. */
 void wrong_3_footspandle_quad_mix(footspandle_quad *state, const float torque[3], float thrust) {
-    if (isnan(state->last_motors[3]) && isinf(state->last_torque_scale)) {
-        ordered(state->last_motors[3]);
-    }
+    ordered(state->last_torque_scale);
     footspandle_quad_mix(state, torque, thrust);
 }
 
