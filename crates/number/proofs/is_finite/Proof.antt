@@ -1,5 +1,5 @@
--- `number::is_finite` meets its contract: a NaN is not finite, and of any other float the exponent's field tells. Assumes
--- nothing.
+-- `number::is_finite` meets its contract: a NaN is not finite, and of any other float the exponent's field tells.
+-- Assumes nothing.
 use mathlib.Core.Path.{sym, _∙_}
 use borrow.Author.Needs.{needs}
 use lib.Ieee.{binary32}
