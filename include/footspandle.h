@@ -33,8 +33,8 @@
  * 5. The processor is in the mode that a program starts in: it rounds to nearest, neither flushes
  *    small results to zero nor takes small numbers for zero, and no floating-point exception traps.
  *    A program that gcc links with -ffast-math starts in another mode.
- *    (A debugger may stop on the invalid flag all the same: docs/COMPARISON.md, 'The invalid flag', says
- *    where it then does. No NaN and no infinity in an argument of the quad's mixes raises it on x86-64.)
+ *    (A debugger may stop on the invalid flag all the same: docs/COMPARISON.md, 'The invalid flag', has what
+ *    raises it. Of the NaNs and infinities that were tried as arguments of the quad's mixes none does on x86-64.)
  * 6. There is room for a call: at most 352 bytes of stack (x86-64; compare/stack prints it for each
  *    function). Some of them can lie under the stack pointer, in the 128 bytes that the System V ABI keeps
  *    from interrupts. Nothing is allocated anywhere else.
