@@ -14,8 +14,10 @@ ghost use Rattle.number.specs.Treat.{treated, clamped, limited, floorCla
 pub const SMALL: f32 = 1.0e-6;
 
 // An f32's bits are three fields (IEEE 754-2019, 3.4): 23 bits of digits, over them 8 of the exponent, and the sign.
+// So many numbers the digits can write: 2^23.
 const DIGITS: u32 = 0x0080_0000;
 
+// And so many the exponent's field: 2^8.
 const EXPONENTS: u32 = 256;
 
 // The exponent's field with every bit set: of an infinity and of a NaN, and of nothing else.
