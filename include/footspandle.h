@@ -2,7 +2,8 @@
  * footspandle.h: the rotor allocator for C and C++, as the archive libexported.a has it.
  *
  * Follows the names and argument orders of relay-mix-quad and relay-mix-multi (Apache-2.0, see
- * NOTICE); changed: declared for C; a mix changes a lent state; rows and outputs are lent.
+ * NOTICE); changed: declared for C; a mix changes a lent state, which keeps the torque of its motors
+ * too; rows and outputs are lent.
  *
  * Each function has a contract in the crate `exported`, which is proved, and which the comments here
  * put into words. It determines the answer, and every byte that is written, for every input: every
@@ -28,7 +29,7 @@
  * 2. What a function writes to (a pointer that is not to const, and is marked FOOTSPANDLE_WRITTEN)
  *    overlaps nothing else that the same call is lent. What is only read may overlap.
  * 3. Nothing else writes to what is lent, nor reads what is written, while the call runs.
- * 4. All that is lent to be read, and a state, has been written before: footspandle_quad_new makes
+ * 4. All that is lent to be read, and a state, has been written before: footspandle_quad32_new makes
  *    a state. Outputs need no value before the call.
  * 5. The processor is in the mode that a program starts in: it rounds to nearest, neither flushes
  *    small results to zero nor takes small numbers for zero, and no floating-point exception traps.
@@ -102,13 +103,24 @@ extern "C" {
 /* ---- types ------------------------------------------------------------------------------------ */
 
 /*
- * The quad's state: the motors of the last mix, and the torque scale that the last thrust-floor or
- * rotor-out recorded. The contracts hold for a state of any bits.
+ * The quad's state: the motors of the last mix, the torque scale that the last thrust-floor or
+ * rotor-out recorded, and the torque that the last motors give. The contracts hold for a state of any
+ * bits.
+ *
+ * A state that calls reach from footspandle_quad32_new holds the sums that
+ * footspandle_motors_to_torque_signs gives of its motors, by bits: after new, after every mix, whatever
+ * the state before was, and after a sheet's run, accepted or refused. That is proved
+ * (crates/exported/proofs/Torque.antt).
+ *
+ * The 32 in the names is the size of a state in bytes. What was compiled for a state of another size
+ * asks for other names and does not link, where else a function would write past the end of a smaller
+ * state. Whoever changes the size changes the names: bindings/declarations holds the one to the other.
  */
-typedef struct footspandle_quad {
+typedef struct footspandle_quad32 {
     float last_motors[FOOTSPANDLE_QUAD_MOTORS]; /* M1 to M4 */
     float last_torque_scale;
-} footspandle_quad;
+    float last_torque[3]; /* roll, pitch and yaw sums of last_motors */
+} footspandle_quad32;
 
 /* What is asked of a frame, or what it gives: a collective thrust, and a torque about each axis. */
 typedef struct footspandle_wrench {
@@ -122,7 +134,7 @@ typedef struct footspandle_wrench {
  * The archive takes a state as the struct of the Rattle code, which is laid out as C lays it out
  * (`#[repr(C)]`), a wrench as four floats that touch, and a count as 64 bits.
  */
-typedef char footspandle_quad_is_20_bytes[sizeof(footspandle_quad) == 20 ? 1 : -1];
+typedef char footspandle_quad32_is_32_bytes[sizeof(footspandle_quad32) == 32 ? 1 : -1];
 typedef char footspandle_wrench_is_16_bytes[sizeof(footspandle_wrench) == 16 ? 1 : -1];
 typedef char footspandle_size_is_8_bytes[sizeof(size_t) == 8 ? 1 : -1];
 
@@ -155,27 +167,40 @@ enum footspandle_kind {
 
 /* ---- the quad --------------------------------------------------------------------------------- */
 
-/* Makes a fresh state: four motors of +0, and the scale 1. What stood there does not matter. */
-void footspandle_quad_new(footspandle_quad *FOOTSPANDLE_WRITTEN state);
+/*
+ * Makes a fresh state: four motors of +0, the scale 1, and three sums of +0. What stood there does not
+ * matter.
+ */
+void footspandle_quad32_new(footspandle_quad32 *FOOTSPANDLE_WRITTEN state);
 
 /*
  * Copies the state's motors, which are those of the last mix; in a fresh state four +0. A motor is a
  * NaN only where the state was given one: no mix stores a NaN.
  */
-void footspandle_quad_last_motors(const footspandle_quad *state, float motors[FOOTSPANDLE_WRITTEN_ARRAY 4]);
+void footspandle_quad32_last_motors(const footspandle_quad32 *state,
+                                    float motors[FOOTSPANDLE_WRITTEN_ARRAY 4]);
 
 /*
  * The state's recorded scale: thrust-floor records the scale that it gave the torque at, rotor-out
  * records 1, the other mixes leave what is there. It is a NaN only where the state was given one.
  */
-float footspandle_quad_last_torque_scale(const footspandle_quad *state);
+float footspandle_quad32_last_torque_scale(const footspandle_quad32 *state);
+
+/*
+ * Copies the three sums that stand in the state, roll, pitch and yaw, which are those of the last
+ * motors; in a fresh state three +0. Nothing is worked out: of a state that a caller made, of any bits,
+ * what stands there is copied, whatever its motors are. A sum is a NaN only where the state was given
+ * one: no mix stores a NaN, since its motors lie in 0..1.
+ */
+void footspandle_quad32_last_torque(const footspandle_quad32 *state, float sums[FOOTSPANDLE_WRITTEN_ARRAY 3]);
 
 /*
  * The five mixes. Each takes a state, a command, and writes its answer, four motors, to
- * state->last_motors; what stood there before does not matter. Every motor lies in 0..1 for every
- * command, so that none is a NaN. A NaN or an infinity in the torque asks for no torque on that axis,
- * and as a thrust it asks for no thrust. Where the recorded scale stays and is a NaN, which only a
- * caller can have put there, it may be another NaN afterwards.
+ * state->last_motors, and the sums that footspandle_motors_to_torque_signs gives of these to
+ * state->last_torque; what stood in both before does not matter. Every motor lies in 0..1 for every
+ * command, so that none is a NaN, nor is a sum. A NaN or an infinity in the torque asks for no torque
+ * on that axis, and as a thrust it asks for no thrust. Where the recorded scale stays and is a NaN,
+ * which only a caller can have put there, it may be another NaN afterwards.
  */
 
 /*
@@ -187,7 +212,8 @@ float footspandle_quad_last_torque_scale(const footspandle_quad *state);
  * the largest raw sum is over 1 and up to 2^24, each motor that has it is exactly 1.
  * The recorded scale stays.
  */
-void footspandle_quad_mix(footspandle_quad *FOOTSPANDLE_WRITTEN state, const float torque_body[3], float thrust);
+void footspandle_quad32_mix(footspandle_quad32 *FOOTSPANDLE_WRITTEN state, const float torque_body[3],
+                            float thrust);
 
 /*
  * Thrust-floor: keeps the thrust, and gives up torque by one scale. The collective is the limited
@@ -198,8 +224,8 @@ void footspandle_quad_mix(footspandle_quad *FOOTSPANDLE_WRITTEN state, const flo
  * that sum, and the scale is 1. A larger delta never gets a smaller motor.
  * The scale that the deltas were multiplied by, in 0..1 (it may be -0), is recorded.
  */
-void footspandle_quad_mix_thrust_floor(footspandle_quad *FOOTSPANDLE_WRITTEN state, const float torque_body[3],
-                                       float thrust, float floor);
+void footspandle_quad32_mix_thrust_floor(footspandle_quad32 *FOOTSPANDLE_WRITTEN state,
+                                         const float torque_body[3], float thrust, float floor);
 
 /*
  * Priority: keeps the thrust, lifted to the floor as in thrust-floor, and gives up torque in two
@@ -212,8 +238,8 @@ void footspandle_quad_mix_thrust_floor(footspandle_quad *FOOTSPANDLE_WRITTEN sta
  * that no float is nearer to the second.
  * The recorded scale stays.
  */
-void footspandle_quad_mix_priority(footspandle_quad *FOOTSPANDLE_WRITTEN state, const float torque_body[3],
-                                   float thrust, float floor);
+void footspandle_quad32_mix_priority(footspandle_quad32 *FOOTSPANDLE_WRITTEN state, const float torque_body[3],
+                                     float thrust, float floor);
 
 /*
  * Airmode: keeps the torque as far as it fits between the idle floor and 1, and moves the thrust up
@@ -228,8 +254,8 @@ void footspandle_quad_mix_priority(footspandle_quad *FOOTSPANDLE_WRITTEN state, 
  * to that sum.
  * The recorded scale stays.
  */
-void footspandle_quad_mix_airmode(footspandle_quad *FOOTSPANDLE_WRITTEN state, const float torque_body[3],
-                                  float thrust, float idle);
+void footspandle_quad32_mix_airmode(footspandle_quad32 *FOOTSPANDLE_WRITTEN state, const float torque_body[3],
+                                    float thrust, float idle);
 
 /*
  * Rotor-out: thrust, roll and pitch on the three rotors that are left where `failed` is 0 to 3 (M1 to
@@ -243,13 +269,14 @@ void footspandle_quad_mix_airmode(footspandle_quad *FOOTSPANDLE_WRITTEN state, c
  * can turn the roll or pitch that was asked for round (docs/DIFFERENCES.md, F17 and F18).
  * The recorded scale becomes 1, whatever was given.
  */
-void footspandle_quad_mix_rotor_out(footspandle_quad *FOOTSPANDLE_WRITTEN state, size_t failed,
-                                    const float torque_body[3], float thrust, float floor);
+void footspandle_quad32_mix_rotor_out(footspandle_quad32 *FOOTSPANDLE_WRITTEN state, size_t failed,
+                                      const float torque_body[3], float thrust, float floor);
 
 /*
  * The roll, pitch and yaw that four motors give by the quad's rows: sums from +0 on, M1 first, and
  * not signs. Motors are taken as they are, so that a sum is a NaN where a motor is one or infinities
  * cancel, and infinite where it overflows. Motors in 0..1 lead to neither.
+ * Those of a mix's motors stand in the state: footspandle_quad32_last_torque reads them.
  */
 void footspandle_motors_to_torque_signs(const float motors[4], float sums[FOOTSPANDLE_WRITTEN_ARRAY 3]);
 
@@ -274,7 +301,7 @@ size_t footspandle_mixer_n_quad_x(float mix[FOOTSPANDLE_WRITTEN_ARRAY 32]);
  * Torque and thrust to eight motors. Thrust and torque are treated; each row's sum is treated; if the
  * largest is over 1, what it has over 1 is taken from all; then each is limited. There is no floor.
  * Promised: every motor lies in 0..1, for every matrix. With the rows of quad_x the first four are
- * those of footspandle_quad_mix, by bits, unless a raw sum of that one is +infinity.
+ * those of footspandle_quad32_mix, by bits, unless a raw sum of that one is +infinity.
  * All eight motors are written, also those past the count.
  */
 void footspandle_mixer_n_mix(const float mix[32], size_t n, const float torque_body[3], float thrust,
@@ -310,13 +337,13 @@ uint32_t footspandle_mixer_mix(const float *rows, size_t rows_length, const foot
  * and lengths are as in footspandle_mixer_mix, but a row's thrust is not read: every rotor has the same
  * collective, the limited thrust, or the floor where the thrust is under it. Each torque is treated, so
  * that a NaN or an infinity asks for none on its axis. The scale is found as in
- * footspandle_quad_mix_thrust_floor, over all rotors; each output is the collective plus the scaled
+ * footspandle_quad32_mix_thrust_floor, over all rotors; each output is the collective plus the scaled
  * delta, held to floor..1.
  * Answers 0, and then every output and *scale are written. Promised, for every row, wrench and floor:
  * every output lies from the floor to 1. A command that fits is not cut: each output is the exact sum
  * of collective and delta, rounded once, zero's sign aside, so that no float is nearer to that sum,
  * and the scale is 1. A larger delta never gets a smaller output. The scale lies in 0..1 (it may be
- * -0). With the quad's four rows, outputs and scale are those of footspandle_quad_mix_thrust_floor, by
+ * -0). With the quad's four rows, outputs and scale are those of footspandle_quad32_mix_thrust_floor, by
  * bits. Of the lift, the mean of the outputs, nothing is promised: that it stays, up to rounding, where
  * the deltas cancel, as hex_x's and octo_coax's do, is arithmetic and not proved.
  * What footspandle_mixer_mix refuses with 10 is refused so here, and the outputs and *scale stay as they
@@ -400,12 +427,15 @@ size_t footspandle_sheet_body(const uint8_t *sheet, size_t sheet_length, size_t 
  * 20i + 19 of the output: four motors and then the recorded scale after that call, each as the bits
  * of its float, little-endian (a NaN, which only the scale of the lent state can be, as 7fc00000).
  * The bytes past the last answer stay as they were. Each answer keeps what its mix promises.
+ * The state's sums are those of the last call's motors, and stand in no answer. Where the sheet has no
+ * entries there is no call, and they stay, as the motors and the scale do.
  * On any other number the output and the state are as they were, byte by byte.
  * entry_number must not be NULL, also where it is not wanted, nor sheet and out, also where they have no bytes.
  */
-uint32_t footspandle_sheet_run(const uint8_t *sheet, size_t sheet_length, footspandle_quad *FOOTSPANDLE_WRITTEN state,
-                               uint8_t *FOOTSPANDLE_WRITTEN out, size_t out_length,
-                               uint32_t *FOOTSPANDLE_WRITTEN entry_number);
+uint32_t footspandle_sheet_run_quad32(const uint8_t *sheet, size_t sheet_length,
+                                      footspandle_quad32 *FOOTSPANDLE_WRITTEN state,
+                                      uint8_t *FOOTSPANDLE_WRITTEN out, size_t out_length,
+                                      uint32_t *FOOTSPANDLE_WRITTEN entry_number);
 
 #ifdef __cplusplus
 }

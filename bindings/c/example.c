@@ -1,8 +1,8 @@
 /*
  * A crew's flight in small, through include/footspandle.h: a fresh state, the five mixes on one
- * command, a lost rotor, other frames, a hard roll on them, rows that are refused, a command sheet with
- * its answers, and a sheet that is refused. It calls every function of the header. `bindings/c/run`
- * builds it, runs it and compares what it prints with example.txt.
+ * command, a lost rotor and the torque that is left, other frames, a hard roll on them, rows that are
+ * refused, a command sheet with its answers, and a sheet that is refused. It calls every function of
+ * the header. `bindings/c/run` builds it, runs it and compares what it prints with example.txt.
  */
 #include <inttypes.h>
 #include <math.h>
@@ -25,10 +25,10 @@ static void show(const char *what, const float *numbers, size_t count) {
 }
 
 /* The four motors, and the recorded scale. */
-static void show_state(const char *what, const footspandle_quad *state) {
+static void show_state(const char *what, const footspandle_quad32 *state) {
     float numbers[5];
-    footspandle_quad_last_motors(state, numbers);
-    numbers[4] = footspandle_quad_last_torque_scale(state);
+    footspandle_quad32_last_motors(state, numbers);
+    numbers[4] = footspandle_quad32_last_torque_scale(state);
     show(what, numbers, 5);
 }
 
@@ -38,26 +38,28 @@ static void fly_quad(void) {
     const float torque[3] = {0.5f, 0.0f, 0.125f}; /* roll, pitch, yaw */
     const float thrust = 0.5f;
     const float floor = 0.125f;
-    footspandle_quad state;
-    float sums[3];
+    footspandle_quad32 state;
+    float sums[3], stored[3];
 
     printf("the quad, thrust 0.5, roll 0.5, yaw 0.125, floor 0.125: M1 M2 M3 M4, recorded scale\n");
-    footspandle_quad_new(&state);
+    footspandle_quad32_new(&state);
     show_state("fresh", &state);
-    footspandle_quad_mix(&state, torque, thrust);
+    footspandle_quad32_mix(&state, torque, thrust);
     show_state("plain", &state);
-    footspandle_quad_mix_thrust_floor(&state, torque, thrust, floor);
+    footspandle_quad32_mix_thrust_floor(&state, torque, thrust, floor);
     show_state("thrust-floor", &state);
-    footspandle_quad_mix_priority(&state, torque, thrust, floor);
+    footspandle_quad32_mix_priority(&state, torque, thrust, floor);
     show_state("priority", &state);
-    footspandle_quad_mix_airmode(&state, torque, thrust, floor);
+    footspandle_quad32_mix_airmode(&state, torque, thrust, floor);
     show_state("airmode", &state);
-    footspandle_quad_mix_rotor_out(&state, 4, torque, thrust, floor);
+    footspandle_quad32_mix_rotor_out(&state, 4, torque, thrust, floor);
     show_state("rotor-out, none lost", &state);
-    footspandle_quad_mix_rotor_out(&state, 0, torque, thrust, floor);
+    footspandle_quad32_mix_rotor_out(&state, 0, torque, thrust, floor);
     show_state("rotor-out, M1 lost", &state);
     footspandle_motors_to_torque_signs(state.last_motors, sums);
     show("its torque sums", sums, 3);
+    footspandle_quad32_last_torque(&state, stored);
+    show("stored in the state", stored, 3);
 }
 
 /* ---- other frames ---- */
@@ -171,13 +173,13 @@ static float float_at(const uint8_t *bytes) {
 static void run_sheet(void) {
     uint8_t wrong[sizeof sheet];
     uint8_t out[FOOTSPANDLE_OUTPUT_BYTES];
-    footspandle_quad state, before;
+    footspandle_quad32 state, before;
     uint32_t number, entry;
     size_t at, length, i, j;
 
     printf("a sheet of two entries, run from a fresh state\n");
-    footspandle_quad_new(&state);
-    number = footspandle_sheet_run(sheet, sizeof sheet, &state, out, sizeof out, &entry);
+    footspandle_quad32_new(&state);
+    number = footspandle_sheet_run_quad32(sheet, sizeof sheet, &state, out, sizeof out, &entry);
     printf("run                  answered %" PRIu32 "\n", number);
     for (i = 0; i < 2; i++) {
         char what[32];
@@ -195,10 +197,10 @@ static void run_sheet(void) {
     number = footspandle_sheet_check(wrong, sizeof wrong, &entry);
     printf("a wrong sheet        answered %" PRIu32 " at entry %" PRIu32 "\n", number, entry);
     before = state;
-    number = footspandle_sheet_run(wrong, sizeof wrong, &state, out, sizeof out, &entry);
+    number = footspandle_sheet_run_quad32(wrong, sizeof wrong, &state, out, sizeof out, &entry);
     printf("run all the same     answered %" PRIu32 " at entry %" PRIu32 ", state %s\n", number,
            entry, memcmp(&state, &before, sizeof state) == 0 ? "as it was" : "changed");
-    number = footspandle_sheet_run(sheet, sizeof sheet, &state, out, 39, &entry);
+    number = footspandle_sheet_run_quad32(sheet, sizeof sheet, &state, out, 39, &entry);
     printf("an output of 39      answered %" PRIu32 " at entry %" PRIu32 ", state %s\n", number,
            entry, memcmp(&state, &before, sizeof state) == 0 ? "as it was" : "changed");
 }

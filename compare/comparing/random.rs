@@ -70,6 +70,11 @@ impl Random {
         Random(scrambled(n.wrapping_add(scrambled(seed))))
     }
 
+    /// Other numbers of the same case, which take none of those to come.
+    pub fn aside(&self) -> Random {
+        Random(scrambled(!self.0))
+    }
+
     #[inline]
     fn next(&mut self) -> u64 {
         self.0 = self.0.wrapping_add(0x9e37_79b9_7f4a_7c15);

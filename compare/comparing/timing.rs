@@ -70,12 +70,21 @@ pub fn side<T, const N: usize>(
     first: [f32; N],
     call: impl Fn(&mut [f32; N], &T) + 'static,
 ) -> Side<T> {
+    side_of(first, call, |memory| memory)
+}
+
+/// A side whose calls leave their answer in K floats of N.
+pub fn side_of<T, const N: usize, const K: usize>(
+    first: [f32; N],
+    call: impl Fn(&mut [f32; N], &T) + 'static,
+    answer: impl Fn(&[f32; N]) -> &[f32; K] + 'static,
+) -> Side<T> {
     Rc::new(move |part| {
         let mut memory = Line(first);
         let mut fold = 0;
         for input in part {
             call(&mut memory.0, input);
-            fold = folded(fold, &memory.0);
+            fold = folded(fold, answer(&memory.0));
         }
         fold
     })

@@ -22,13 +22,16 @@ static const uint32_t arguments[] = {
 };
 
 /*
- * States: a signalling NaN, a quiet one or an infinity in each of five places, which differ by place; and last a fresh
- * state.
+ * States: a signalling NaN, a quiet one or an infinity in each of eight places, four motors, the scale and three sums,
+ * which differ by place; and last a fresh state. The motors and the scale have every combination; a sum is of the kind
+ * that the motor of its number is of, since every combination of eight would take 27 times as long.
  */
-enum { STATE = 5, STORED = 3, STORED_QUICK = 2, STATES = 3 * 3 * 3 * 3 * 3 + 1, STATES_QUICK = 2 * 2 * 2 * 2 * 2 + 1 };
+enum { SUMS = 5, STATE = 8 };
+enum { STORED = 3, STORED_QUICK = 2, STATES = 3 * 3 * 3 * 3 * 3 + 1, STATES_QUICK = 2 * 2 * 2 * 2 * 2 + 1 };
 static const uint32_t stored[STATE][STORED] = {
     {0x7f800001, 0x7fc00000, 0x7f800000}, {0xff800001, 0xffc00000, 0xff800000}, {0x7fbfffff, 0x7fffffff, 0x7f800000},
-    {0xffbfffff, 0xffffffff, 0xff800000}, {0x7fa00000, 0x7fc00001, 0x7f800000},
+    {0xffbfffff, 0xffffffff, 0xff800000}, {0x7fa00000, 0x7fc00001, 0x7f800000}, {0xffa00000, 0xffc00001, 0xff800000},
+    {0x7f800002, 0x7fe00000, 0x7f800000}, {0xff800002, 0xffe00000, 0xff800000},
 };
 
 /* Rotor-out's rotors: the four, and two numbers by which none is lost. */
@@ -46,30 +49,30 @@ static size_t digit(uint64_t *number, size_t base) {
 /* A command's numbers: torque, thrust, floor. */
 enum { THRUST = 3, FLOOR = 4, COMMAND = 5 };
 
-typedef void mix(footspandle_quad *state, size_t rotor, const float command[COMMAND]);
+typedef void mix(footspandle_quad32 *state, size_t rotor, const float command[COMMAND]);
 
-static void plain(footspandle_quad *state, size_t rotor, const float command[COMMAND]) {
+static void plain(footspandle_quad32 *state, size_t rotor, const float command[COMMAND]) {
     (void)rotor;
-    footspandle_quad_mix(state, command, command[THRUST]);
+    footspandle_quad32_mix(state, command, command[THRUST]);
 }
 
-static void thrust_floor(footspandle_quad *state, size_t rotor, const float command[COMMAND]) {
+static void thrust_floor(footspandle_quad32 *state, size_t rotor, const float command[COMMAND]) {
     (void)rotor;
-    footspandle_quad_mix_thrust_floor(state, command, command[THRUST], command[FLOOR]);
+    footspandle_quad32_mix_thrust_floor(state, command, command[THRUST], command[FLOOR]);
 }
 
-static void priority(footspandle_quad *state, size_t rotor, const float command[COMMAND]) {
+static void priority(footspandle_quad32 *state, size_t rotor, const float command[COMMAND]) {
     (void)rotor;
-    footspandle_quad_mix_priority(state, command, command[THRUST], command[FLOOR]);
+    footspandle_quad32_mix_priority(state, command, command[THRUST], command[FLOOR]);
 }
 
-static void airmode(footspandle_quad *state, size_t rotor, const float command[COMMAND]) {
+static void airmode(footspandle_quad32 *state, size_t rotor, const float command[COMMAND]) {
     (void)rotor;
-    footspandle_quad_mix_airmode(state, command, command[THRUST], command[FLOOR]);
+    footspandle_quad32_mix_airmode(state, command, command[THRUST], command[FLOOR]);
 }
 
-static void rotor_out(footspandle_quad *state, size_t rotor, const float command[COMMAND]) {
-    footspandle_quad_mix_rotor_out(state, rotor, command, command[THRUST], command[FLOOR]);
+static void rotor_out(footspandle_quad32 *state, size_t rotor, const float command[COMMAND]) {
+    footspandle_quad32_mix_rotor_out(state, rotor, command, command[THRUST], command[FLOOR]);
 }
 
 /* ---- a block: one command, from every state --------------------------------------------------- */
@@ -82,7 +85,7 @@ struct input {
 
 static mix *mixed;
 static int has_floor, has_rotor;
-static footspandle_quad states[STATES];
+static footspandle_quad32 states[STATES];
 static struct input at; /* the command at hand; its state is filled in for a call that raises the flag */
 static float command[COMMAND];
 static int invalid_by_the_rules;
@@ -94,13 +97,15 @@ static int seen[WHYS];
 static void make_states(size_t values, size_t count) {
     for (uint64_t n = 0; n < count - 1; n++) {
         uint64_t rest = n;
+        size_t value[STATE];
         uint32_t bits[STATE];
         for (int i = 0; i < STATE; i++) {
-            bits[i] = stored[i][digit(&rest, values)];
+            value[i] = i < SUMS ? digit(&rest, values) : value[i - SUMS];
+            bits[i] = stored[i][value[i]];
         }
-        memcpy(&states[n], bits, sizeof bits);
+        memcpy(&states[n], bits, sizeof states[n]);
     }
-    footspandle_quad_new(&states[count - 1]);
+    footspandle_quad32_new(&states[count - 1]);
 }
 
 static uint64_t commands(void) {
@@ -127,7 +132,7 @@ static void begin(uint64_t block) {
 }
 
 static void call(uint64_t k) {
-    footspandle_quad state = states[k];
+    footspandle_quad32 state = states[k];
     mixed(&state, at.rotor, command);
 }
 
@@ -165,7 +170,7 @@ static void note_stop(enum why w, const void *at_instruction) {
 static struct input other;
 
 static void call_other(uint64_t k) {
-    footspandle_quad state;
+    footspandle_quad32 state;
     float numbers[COMMAND];
     (void)k;
     memcpy(&state, other.state, sizeof state);

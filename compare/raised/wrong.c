@@ -34,42 +34,49 @@ bool wrong_3_probe_is_finite(float x) {
 
 /* ---- mixes that look at an argument before it is treated ---- */
 
-void wrong_1_footspandle_quad_mix(footspandle_quad *state, const float torque[3], float thrust) {
+void wrong_1_footspandle_quad32_mix(footspandle_quad32 *state, const float torque[3], float thrust) {
     ordered(thrust);
-    footspandle_quad_mix(state, torque, thrust);
+    footspandle_quad32_mix(state, torque, thrust);
 }
 
-void wrong_2_footspandle_quad_mix(footspandle_quad *state, const float torque[3], float thrust) {
+void wrong_2_footspandle_quad32_mix(footspandle_quad32 *state, const float torque[3], float thrust) {
     subtracted(torque[2]);
-    footspandle_quad_mix(state, torque, thrust);
+    footspandle_quad32_mix(state, torque, thrust);
 }
 
-/* By its state alone. */
-void wrong_3_footspandle_quad_mix(footspandle_quad *state, const float torque[3], float thrust) {
+/* By its state alone: the scale, and a sum. */
+void wrong_3_footspandle_quad32_mix(footspandle_quad32 *state, const float torque[3], float thrust) {
     ordered(state->last_torque_scale);
-    footspandle_quad_mix(state, torque, thrust);
+    footspandle_quad32_mix(state, torque, thrust);
 }
 
-void wrong_1_footspandle_quad_mix_thrust_floor(footspandle_quad *state, const float torque[3], float thrust,
-                                               float floor) {
+void wrong_4_footspandle_quad32_mix(footspandle_quad32 *state, const float torque[3], float thrust) {
+    subtracted(state->last_torque[2]);
+    footspandle_quad32_mix(state, torque, thrust);
+}
+
+void wrong_1_footspandle_quad32_mix_thrust_floor(footspandle_quad32 *state, const float torque[3], float thrust,
+                                                 float floor) {
     ordered(floor);
-    footspandle_quad_mix_thrust_floor(state, torque, thrust, floor);
+    footspandle_quad32_mix_thrust_floor(state, torque, thrust, floor);
 }
 
-void wrong_1_footspandle_quad_mix_priority(footspandle_quad *state, const float torque[3], float thrust, float floor) {
+void wrong_1_footspandle_quad32_mix_priority(footspandle_quad32 *state, const float torque[3], float thrust,
+                                             float floor) {
     ordered(torque[0]);
-    footspandle_quad_mix_priority(state, torque, thrust, floor);
+    footspandle_quad32_mix_priority(state, torque, thrust, floor);
 }
 
-void wrong_1_footspandle_quad_mix_airmode(footspandle_quad *state, const float torque[3], float thrust, float idle) {
+void wrong_1_footspandle_quad32_mix_airmode(footspandle_quad32 *state, const float torque[3], float thrust,
+                                            float idle) {
     subtracted(thrust);
-    footspandle_quad_mix_airmode(state, torque, thrust, idle);
+    footspandle_quad32_mix_airmode(state, torque, thrust, idle);
 }
 
-void wrong_1_footspandle_quad_mix_rotor_out(footspandle_quad *state, size_t failed, const float torque[3], float thrust,
-                                            float floor) {
+void wrong_1_footspandle_quad32_mix_rotor_out(footspandle_quad32 *state, size_t failed, const float torque[3],
+                                              float thrust, float floor) {
     ordered(torque[1]);
-    footspandle_quad_mix_rotor_out(state, failed, torque, thrust, floor);
+    footspandle_quad32_mix_rotor_out(state, failed, torque, thrust, floor);
 }
 
 /* ---- wrong rules: plain's arithmetic is never invalid, and where a raw sum is over 1 ---- */

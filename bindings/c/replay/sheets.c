@@ -1,5 +1,5 @@
 /*
- * The list of sheets. A record is 18 words and then bytes, as compare/rooms/sheet/list.rs says: the
+ * The list of sheets. A record is 24 words and then bytes, as compare/rooms/sheet/list.rs says: the
  * sheet, the output after a run, and the text that mixrun prints, which is not the archive's. Its
  * floats and words have the least byte first, as the archive's machines have.
  */
@@ -10,8 +10,8 @@
 #include "list.h"
 #include "sealed.h"
 
-#define HEAD 72          /* bytes of the words */
-#define STATE 20         /* bytes of a state */
+#define HEAD 96          /* bytes of the words */
+#define STATE 32         /* bytes of a state */
 #define MOST_OUTPUT 2048 /* more bytes than an output of the list has */
 
 /* A record. */
@@ -32,11 +32,11 @@ enum {
     NUMBER = 8,       /* what a run is told */
     ENTRY = 12,       /* the entry that comes with it */
     BEFORE = 16,      /* the state before the run */
-    AFTER = 36,       /* the state after it */
-    BODY_ENTRY = 56,  /* an entry */
-    BODY_AT = 60,     /* where its body begins */
-    BODY_LENGTH = 64, /* the body's length */
-    TEXT = 68         /* the text's */
+    AFTER = 48,       /* the state after it */
+    BODY_ENTRY = 80,  /* an entry */
+    BODY_AT = 84,     /* where its body begins */
+    BODY_LENGTH = 88, /* the body's length */
+    TEXT = 92         /* the text's */
 };
 
 static struct record read_record(const uint8_t *words) {
@@ -144,12 +144,12 @@ static const uint8_t *filled(void) {
 }
 
 /* Runs the sheet on a state and an output that are lent, or sealed. */
-static void run_on(const struct record *r, footspandle_quad *state, uint8_t *out,
+static void run_on(const struct record *r, footspandle_quad32 *state, uint8_t *out,
                    struct fault *fault) {
     static struct sealed sheet = SEALED("sheet_run wrote to the sheet");
     struct lent entry;
-    uint32_t number = footspandle_sheet_run(seal(&sheet, r->sheet, r->length, 1), r->length, state,
-                                            out, r->room, lend(&entry, NULL, 4, 4));
+    uint32_t number = footspandle_sheet_run_quad32(seal(&sheet, r->sheet, r->length, 1), r->length,
+                                                   state, out, r->room, lend(&entry, NULL, 4, 4));
     must_tell(fault, "sheet_run", r->number, r->entry, number, word_at(lent_bytes(&entry)));
     must(fault, is_kept(&entry), "sheet_run wrote outside of the entry number");
 }
@@ -181,7 +181,8 @@ static void compare_run(const struct record *r, struct ran *ran, struct fault *f
 /* ---- a refused run ---- */
 
 /* A state of NaNs, quiet and signalling, of both signs, none of them 7fc00000. */
-static const uint32_t odd_nans[5] = {0x7fc12345, 0xff812345, 0x7f800001, 0xffffffff, 0xffc00001};
+static const uint32_t odd_nans[8] = {0x7fc12345, 0xff812345, 0x7f800001, 0xffffffff,
+                                     0xffc00001, 0xffa54321, 0x7fd54321, 0x7f800002};
 
 /*
  * After a refusal the state's bytes and the output's are those that were lent, the bits of a NaN

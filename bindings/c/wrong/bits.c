@@ -126,7 +126,7 @@ static void spoil_answers(void) {
 /* ---- the list of sheets ---- */
 
 /* The places of the words, and how many bytes they take. */
-enum { SHEET = 0, OUTPUT = 4, NUMBER = 8, AFTER = 36, BODY_AT = 60, TEXT = 68, HEAD = 72 };
+enum { SHEET = 0, OUTPUT = 4, NUMBER = 8, AFTER = 48, BODY_AT = 84, TEXT = 92, HEAD = 96 };
 
 /* A bit of each byte from one place to another, in a list of the one record. */
 static void turn_bytes(uint8_t *record, size_t size, size_t from, size_t to, const char *what) {
@@ -146,7 +146,7 @@ static void turn_sheet(const uint8_t *words, size_t size) {
     size_t output = HEAD + word_at(words + SHEET);
     memcpy(record + 4, words, size);
     turn_bytes(record, 4 + size, NUMBER, NUMBER + 8, "a sheet's number or entry");
-    turn_bytes(record, 4 + size, AFTER, AFTER + 20, "a sheet's state");
+    turn_bytes(record, 4 + size, AFTER, AFTER + 32, "a sheet's state");
     turn_bytes(record, 4 + size, BODY_AT, BODY_AT + 8, "a sheet's body");
     turn_bytes(record, 4 + size, output, output + word_at(words + OUTPUT), "a sheet's output");
 }

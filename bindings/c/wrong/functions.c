@@ -64,17 +64,25 @@ static void exchange(float *a, float *b) {
 
 /* ---- the quad ---- */
 
-void wrong_quad_new(footspandle_quad *state) {
-    float scale = state->last_torque_scale;
-    footspandle_quad_new(state);
+/* The sums of a state, put into another. */
+static void keep_sums(footspandle_quad32 *state, const footspandle_quad32 *before) {
+    memcpy(state->last_torque, before->last_torque, sizeof state->last_torque);
+}
+
+void wrong_quad32_new(footspandle_quad32 *state) {
+    footspandle_quad32 before = *state;
+    footspandle_quad32_new(state);
     if (slip("quad_new: the scale stays")) {
-        state->last_torque_scale = scale;
+        state->last_torque_scale = before.last_torque_scale;
+    }
+    if (slip("quad_new: the sums stay")) {
+        keep_sums(state, &before);
     }
     beside("quad_new: the state", state, sizeof *state);
 }
 
-void wrong_quad_last_motors(const footspandle_quad *state, float *motors) {
-    footspandle_quad_last_motors(state, motors);
+void wrong_quad32_last_motors(const footspandle_quad32 *state, float *motors) {
+    footspandle_quad32_last_motors(state, motors);
     if (slip("quad_last_motors: M1 and M4 exchanged")) {
         exchange(&motors[0], &motors[3]);
     }
@@ -82,71 +90,101 @@ void wrong_quad_last_motors(const footspandle_quad *state, float *motors) {
     beside("quad_last_motors: the motors", motors, 16);
 }
 
-float wrong_quad_last_torque_scale(const footspandle_quad *state) {
+float wrong_quad32_last_torque_scale(const footspandle_quad32 *state) {
+    float scale = footspandle_quad32_last_torque_scale(state);
     reads("quad_last_torque_scale: writes to the state", state);
-    return slip("quad_last_torque_scale: always 1") ? 1 : footspandle_quad_last_torque_scale(state);
+    return slip("quad_last_torque_scale: always 1") ? 1 : scale;
 }
 
-void wrong_quad_mix(footspandle_quad *state, const float *torque_body, float thrust) {
-    footspandle_quad copy = *state, *mixed = state;
+void wrong_quad32_last_torque(const footspandle_quad32 *state, float *sums) {
+    footspandle_quad32_last_torque(state, sums);
+    if (slip("quad_last_torque: pitch and yaw exchanged")) {
+        exchange(&sums[1], &sums[2]);
+    }
+    if (slip("quad_last_torque: worked out of the motors")) {
+        footspandle_motors_to_torque_signs(state->last_motors, sums);
+    }
+    reads("quad_last_torque: writes to the state", state);
+    beside("quad_last_torque: the sums", sums, 12);
+}
+
+void wrong_quad32_mix(footspandle_quad32 *state, const float *torque_body, float thrust) {
+    footspandle_quad32 before = *state, copy = *state, *mixed = state;
     if (slip("quad_mix: on a copy of the state")) {
         mixed = &copy;
     }
-    footspandle_quad_mix(mixed, torque_body, thrust);
+    footspandle_quad32_mix(mixed, torque_body, thrust);
     if (slip("quad_mix: records a scale")) {
         state->last_torque_scale = 1;
+    }
+    if (slip("quad_mix: the sums stay")) {
+        keep_sums(state, &before);
     }
     reads("quad_mix: writes to the torque", torque_body);
     beside("quad_mix: the state", state, sizeof *state);
 }
 
-void wrong_quad_mix_thrust_floor(footspandle_quad *state, const float *torque_body, float thrust,
-                                 float floor) {
-    float scale = state->last_torque_scale;
+void wrong_quad32_mix_thrust_floor(footspandle_quad32 *state, const float *torque_body,
+                                   float thrust, float floor) {
+    footspandle_quad32 before = *state;
     if (slip("quad_mix_thrust_floor: thrust and floor exchanged")) {
         exchange(&thrust, &floor);
     }
-    footspandle_quad_mix_thrust_floor(state, torque_body, thrust, floor);
+    footspandle_quad32_mix_thrust_floor(state, torque_body, thrust, floor);
     if (slip("quad_mix_thrust_floor: no scale recorded")) {
-        state->last_torque_scale = scale;
+        state->last_torque_scale = before.last_torque_scale;
+    }
+    if (slip("quad_mix_thrust_floor: the sums stay")) {
+        keep_sums(state, &before);
     }
     reads("quad_mix_thrust_floor: writes to the torque", torque_body);
     beside("quad_mix_thrust_floor: the state", state, sizeof *state);
 }
 
-void wrong_quad_mix_priority(footspandle_quad *state, const float *torque_body, float thrust,
-                             float floor) {
+void wrong_quad32_mix_priority(footspandle_quad32 *state, const float *torque_body, float thrust,
+                               float floor) {
+    footspandle_quad32 before = *state;
     if (slip("quad_mix_priority: is thrust-floor")) {
-        footspandle_quad_mix_thrust_floor(state, torque_body, thrust, floor);
+        footspandle_quad32_mix_thrust_floor(state, torque_body, thrust, floor);
     } else {
-        footspandle_quad_mix_priority(state, torque_body, thrust, floor);
+        footspandle_quad32_mix_priority(state, torque_body, thrust, floor);
+    }
+    if (slip("quad_mix_priority: the sums stay")) {
+        keep_sums(state, &before);
     }
     reads("quad_mix_priority: writes to the torque", torque_body);
     beside("quad_mix_priority: the state", state, sizeof *state);
 }
 
-void wrong_quad_mix_airmode(footspandle_quad *state, const float *torque_body, float thrust,
-                            float idle) {
+void wrong_quad32_mix_airmode(footspandle_quad32 *state, const float *torque_body, float thrust,
+                              float idle) {
+    footspandle_quad32 before = *state;
     if (slip("quad_mix_airmode: thrust and idle exchanged")) {
         exchange(&thrust, &idle);
     }
-    footspandle_quad_mix_airmode(state, torque_body, thrust, idle);
+    footspandle_quad32_mix_airmode(state, torque_body, thrust, idle);
+    if (slip("quad_mix_airmode: the sums stay")) {
+        keep_sums(state, &before);
+    }
     reads("quad_mix_airmode: writes to the torque", torque_body);
     beside("quad_mix_airmode: the state", state, sizeof *state);
 }
 
-void wrong_quad_mix_rotor_out(footspandle_quad *state, size_t failed, const float *torque_body,
-                              float thrust, float floor) {
-    float scale = state->last_torque_scale;
+void wrong_quad32_mix_rotor_out(footspandle_quad32 *state, size_t failed, const float *torque_body,
+                                float thrust, float floor) {
+    footspandle_quad32 before = *state;
     if (slip("quad_mix_rotor_out: rotors from 1")) {
         failed--;
     }
     if (slip("quad_mix_rotor_out: a rotor of 32 bits")) {
         failed &= UINT32_MAX;
     }
-    footspandle_quad_mix_rotor_out(state, failed, torque_body, thrust, floor);
+    footspandle_quad32_mix_rotor_out(state, failed, torque_body, thrust, floor);
     if (slip("quad_mix_rotor_out: the scale stays")) {
-        state->last_torque_scale = scale;
+        state->last_torque_scale = before.last_torque_scale;
+    }
+    if (slip("quad_mix_rotor_out: the sums stay")) {
+        keep_sums(state, &before);
     }
     reads("quad_mix_rotor_out: writes to the torque", torque_body);
     beside("quad_mix_rotor_out: the state", state, sizeof *state);
@@ -368,7 +406,8 @@ static void change_nan(float *x, uint32_t bits) {
 }
 
 /* What a run does wrong where it is refused. */
-static void run_refused(uint32_t number, footspandle_quad *state, uint8_t *out, size_t out_length) {
+static void run_refused(uint32_t number, footspandle_quad32 *state, uint8_t *out,
+                        size_t out_length) {
     if (slip("sheet_run: a refusal makes a NaN of the state quiet")) {
         change_nan(&state->last_motors[2], 0x00400000);
     }
@@ -378,8 +417,14 @@ static void run_refused(uint32_t number, footspandle_quad *state, uint8_t *out, 
     if (slip("sheet_run: a refusal changes the bits of a scale that is a NaN")) {
         change_nan(&state->last_torque_scale, 0x00000002);
     }
+    if (slip("sheet_run: a refusal changes the bits of a sum that is a NaN")) {
+        change_nan(&state->last_torque[2], 0x00000004);
+    }
     if (slip("sheet_run: a refusal makes the state new")) {
-        footspandle_quad_new(state);
+        footspandle_quad32_new(state);
+    }
+    if (slip("sheet_run: a refusal works the sums out")) {
+        footspandle_motors_to_torque_signs(state->last_motors, state->last_torque);
     }
     if (slip("sheet_run: a refusal touches the output") && out_length > 0) {
         turn(out, (ptrdiff_t)(out_length - 1));
@@ -389,6 +434,9 @@ static void run_refused(uint32_t number, footspandle_quad *state, uint8_t *out, 
     }
     if (slip("sheet_run: a refusal writes the scale of the state as it is")) {
         write_back(&state->last_torque_scale);
+    }
+    if (slip("sheet_run: a refusal writes the last sum of the state as it is")) {
+        write_back(&state->last_torque[2]);
     }
     if (slip("sheet_run: a short output is refused, and the state written as it is") &&
         number == FOOTSPANDLE_SHORT_OUTPUT) {
@@ -403,14 +451,21 @@ static void run_refused(uint32_t number, footspandle_quad *state, uint8_t *out, 
     }
 }
 
-uint32_t wrong_sheet_run(const uint8_t *sheet, size_t sheet_length, footspandle_quad *state,
-                         uint8_t *out, size_t out_length, uint32_t *entry) {
-    footspandle_quad copy = *state, *run = state;
+uint32_t wrong_sheet_run_quad32(const uint8_t *sheet, size_t sheet_length,
+                                footspandle_quad32 *state, uint8_t *out, size_t out_length,
+                                uint32_t *entry) {
+    footspandle_quad32 from = *state, copy = *state, *run = state;
     uint32_t before = *entry, number;
     if (slip("sheet_run: on a copy of the state")) {
         run = &copy;
     }
-    number = footspandle_sheet_run(sheet, sheet_length, run, out, out_length, entry);
+    number = footspandle_sheet_run_quad32(sheet, sheet_length, run, out, out_length, entry);
+    if (slip("sheet_run: the sums stay") && number == 0) {
+        keep_sums(state, &from);
+    }
+    if (slip("sheet_run: no entries, and the sums worked out") && number == 0 && sheet[1] == 0) {
+        footspandle_motors_to_torque_signs(state->last_motors, state->last_torque);
+    }
     if (slip("sheet_run: no entry stored")) {
         *entry = before;
     }

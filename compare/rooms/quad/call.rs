@@ -2,11 +2,24 @@
 
 use comparing::hex::Hex;
 
-/// Four motors, then the recorded scale.
-pub type State = [f32; 5];
+/// Four motors, then the recorded scale, and the roll, pitch and yaw sums of the motors, which the
+/// Rust's state does not have.
+pub type State = [f32; 8];
 
 /// What `new` gives.
-pub const FRESH: State = [0.0, 0.0, 0.0, 0.0, 1.0];
+pub const FRESH: State = [0.0, 0.0, 0.0, 0.0, 1.0, 0.0, 0.0, 0.0];
+
+/// The state of these.
+#[inline]
+pub fn state([a, b, c, d]: [f32; 4], scale: f32, [roll, pitch, yaw]: [f32; 3]) -> State {
+    [a, b, c, d, scale, roll, pitch, yaw]
+}
+
+/// The three sums of a state.
+#[inline]
+pub fn sums(&[_, _, _, _, _, roll, pitch, yaw]: &State) -> [f32; 3] {
+    [roll, pitch, yaw]
+}
 
 #[derive(Clone, Copy)]
 pub enum Mix {

@@ -4,15 +4,25 @@ use comparing::inputs::{seeded, Inputs};
 use comparing::random::Random;
 use comparing::special::{LIMITED, TORQUES};
 
-use super::call::{Call, Mix, State, FRESH, ROTORS};
+use super::call::{self, Call, Mix, State, FRESH, ROTORS};
 
-/// A fresh state, a state of any bits, or a mixture.
+/// A fresh state, a state of any bits, or a mixture. Its sums are those of no motors, so that one
+/// which is left as it was shows.
 pub fn state(random: &mut Random) -> State {
     match random.below(3) {
         0 => FRESH,
-        1 => [(); 5].map(|_| random.bits()),
-        _ => [(); 5].map(|_| random.any()),
+        1 => state_of(random, Random::bits),
+        _ => state_of(random, Random::any),
     }
+}
+
+/// A state of numbers that are drawn alike. The sums are drawn aside: what is drawn after a state is
+/// what it was before states had them.
+fn state_of(random: &mut Random, drawn: fn(&mut Random) -> f32) -> State {
+    let mut aside = random.aside();
+    let motors = [(); 4].map(|_| drawn(random));
+    let scale = drawn(random);
+    call::state(motors, scale, [(); 3].map(|_| drawn(&mut aside)))
 }
 
 /// The numbers of a command, with no mix yet.

@@ -1,8 +1,8 @@
 //! The quad's records. The program that replays them holds one state, and each record acts on the
 //! state that the one before it left; the answers of all but the last kind are that state
-//! afterwards, the four motors and the recorded scale.
+//! afterwards: the four motors, the recorded scale and the three sums.
 //!
-//!   9            the state is set to the inputs: four motors, scale
+//!   9            the state is set to the inputs: four motors, scale, three sums
 //!   10           a new state: no inputs
 //!   11           mix: roll, pitch, yaw, thrust
 //!   12, 13, 14   mix_thrust_floor, mix_priority, mix_airmode: the same, and the floor
@@ -72,7 +72,7 @@ impl Quad<'_> {
 
     fn set(&mut self, state: &State) {
         self.mixer = rust::mixer(state);
-        self.push(9, state);
+        self.list.push(9, record(state, &rust::read(state)));
     }
 
     /// A call. A rotor that has no kind is replaced by the last that has one, which names none

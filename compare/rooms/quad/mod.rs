@@ -1,4 +1,5 @@
-//! The quad: a state of four motors and a scale, and five mixes that change it.
+//! The quad: a state of four motors, a scale and the three sums of the motors, and five mixes that
+//! change it.
 
 pub mod call;
 pub mod chains;

@@ -2,58 +2,59 @@
 
 use comparing::inputs::LENT;
 
-use super::call::{Call, Mix, State};
+use super::call::{self, Call, Mix, State};
 use super::chains::{Chain, CALLS};
 use super::rust::{returned, After};
 
 extern "C" {
-    fn footspandle_quad_new(state: *mut State);
-    fn footspandle_quad_last_motors(state: *const State, motors: *mut [f32; 4]);
-    fn footspandle_quad_last_torque_scale(state: *const State) -> f32;
-    pub fn footspandle_quad_mix(state: *mut State, torque_body: *const [f32; 3], thrust: f32);
-    pub fn footspandle_quad_mix_thrust_floor(
+    fn footspandle_quad32_new(state: *mut State);
+    fn footspandle_quad32_last_motors(state: *const State, motors: *mut [f32; 4]);
+    fn footspandle_quad32_last_torque_scale(state: *const State) -> f32;
+    pub fn footspandle_quad32_last_torque(state: *const State, sums: *mut [f32; 3]);
+    pub fn footspandle_quad32_mix(state: *mut State, torque_body: *const [f32; 3], thrust: f32);
+    pub fn footspandle_quad32_mix_thrust_floor(
         state: *mut State,
         torque_body: *const [f32; 3],
         thrust: f32,
         floor: f32,
     );
-    pub fn footspandle_quad_mix_priority(
+    pub fn footspandle_quad32_mix_priority(
         state: *mut State,
         torque_body: *const [f32; 3],
         thrust: f32,
         floor: f32,
     );
-    pub fn footspandle_quad_mix_airmode(
+    pub fn footspandle_quad32_mix_airmode(
         state: *mut State,
         torque_body: *const [f32; 3],
         thrust: f32,
         idle: f32,
     );
-    pub fn footspandle_quad_mix_rotor_out(
+    pub fn footspandle_quad32_mix_rotor_out(
         state: *mut State,
         failed: usize,
         torque_body: *const [f32; 3],
         thrust: f32,
         floor: f32,
     );
-    fn footspandle_motors_to_torque_signs(motors: *const [f32; 4], sums: *mut [f32; 3]);
+    pub fn footspandle_motors_to_torque_signs(motors: *const [f32; 4], sums: *mut [f32; 3]);
 }
 
 #[inline]
 pub fn new() -> State {
-    let mut state = [LENT; 5];
-    unsafe { footspandle_quad_new(&mut state) };
+    let mut state = [LENT; 8];
+    unsafe { footspandle_quad32_new(&mut state) };
     state
 }
 
-/// What the two readers give.
+/// What the three readers give.
 #[inline]
 pub fn readers(state: &State) -> State {
-    let mut motors = [LENT; 4];
-    unsafe { footspandle_quad_last_motors(state, &mut motors) };
-    let scale = unsafe { footspandle_quad_last_torque_scale(state) };
-    let [a, b, c, d] = motors;
-    [a, b, c, d, scale]
+    let (mut motors, mut sums) = ([LENT; 4], [LENT; 3]);
+    unsafe { footspandle_quad32_last_motors(state, &mut motors) };
+    unsafe { footspandle_quad32_last_torque(state, &mut sums) };
+    let scale = unsafe { footspandle_quad32_last_torque_scale(state) };
+    call::state(motors, scale, sums)
 }
 
 /// The state after a call, which updates it where it stands.
@@ -69,11 +70,11 @@ pub fn mixed(state: &State, call: &Call) -> State {
     let (at, from) = (&mut lent, &torque);
     unsafe {
         match call.mix {
-            Mix::Plain => footspandle_quad_mix(at, from, thrust),
-            Mix::ThrustFloor => footspandle_quad_mix_thrust_floor(at, from, thrust, floor),
-            Mix::Priority => footspandle_quad_mix_priority(at, from, thrust, floor),
-            Mix::Airmode => footspandle_quad_mix_airmode(at, from, thrust, floor),
-            Mix::RotorOut => footspandle_quad_mix_rotor_out(at, call.rotor, from, thrust, floor),
+            Mix::Plain => footspandle_quad32_mix(at, from, thrust),
+            Mix::ThrustFloor => footspandle_quad32_mix_thrust_floor(at, from, thrust, floor),
+            Mix::Priority => footspandle_quad32_mix_priority(at, from, thrust, floor),
+            Mix::Airmode => footspandle_quad32_mix_airmode(at, from, thrust, floor),
+            Mix::RotorOut => footspandle_quad32_mix_rotor_out(at, call.rotor, from, thrust, floor),
         }
     }
     lent

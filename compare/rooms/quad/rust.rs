@@ -1,20 +1,21 @@
-//! The Rust's side. What is compared after a call are the motors that it returns and what the two
-//! readers then give.
+//! The Rust's side. What is compared after a call are the motors that it returns and what the
+//! readers then give. The Rust has no reader of the torque: there what `motors_to_torque_signs`
+//! gives of its motors stands for it.
 
-use relay_mix_quad::{passed_on, QuadMixer};
+use relay_mix_quad::{motors_to_torque_signs, passed_on, QuadMixer};
 
-use super::call::{Call, State};
+use super::call::{self, sums, Call, State};
 use super::chains::{Chain, CALLS};
 
 /// `state` and `mix` over the `QuadMixer` in scope, whichever crate's it is: the Rust's own, or the
-/// one of bindings/rust, which has the same methods.
+/// one of bindings/rust, which has the same methods. What gives the torque of a mixer is named.
 #[macro_export]
 macro_rules! quad_calls {
-    () => {
-        /// What the two readers give.
+    ($torque:path) => {
+        /// What the readers give.
         pub fn state(mixer: &QuadMixer) -> $crate::quad::call::State {
-            let [a, b, c, d] = mixer.last_motors();
-            [a, b, c, d, mixer.last_torque_scale()]
+            let (motors, scale) = (mixer.last_motors(), mixer.last_torque_scale());
+            $crate::quad::call::state(motors, scale, $torque(mixer))
         }
 
         /// The motors that a call returns. It changes the mixer.
@@ -38,10 +39,23 @@ macro_rules! quad_calls {
     };
 }
 
-quad_calls!();
+quad_calls!(torque);
 
-pub fn mixer(&[a, b, c, d, scale]: &State) -> QuadMixer {
+/// The torque of the last motors, worked out.
+fn torque(mixer: &QuadMixer) -> [f32; 3] {
+    motors_to_torque_signs(mixer.last_motors())
+}
+
+/// The state as the Rust has it, without the sums.
+pub fn mixer(&[a, b, c, d, scale, ..]: &State) -> QuadMixer {
     passed_on::mixer([a, b, c, d], scale)
+}
+
+/// What readers are to give of a state of any bits: the Rust's of what it has, and the sums that
+/// stand there, which need not be those of the motors.
+pub fn read(state: &State) -> State {
+    let mixer = mixer(state);
+    call::state(mixer.last_motors(), mixer.last_torque_scale(), sums(state))
 }
 
 /// The motors returned, and the state afterwards.
@@ -63,6 +77,6 @@ pub fn chained(chain: &Chain) -> [After; CALLS] {
 
 /// After a call that updates the state: the motors answered are those of the new state.
 pub fn returned(state: State) -> After {
-    let [a, b, c, d, _] = state;
+    let [a, b, c, d, ..] = state;
     ([a, b, c, d], state)
 }

@@ -21,9 +21,7 @@ pub fn table() -> Table {
             |_| ours::new(),
             |_| rust::state(&QuadMixer::new()),
         ),
-        row("quad readers", states(), ours::readers, |s| {
-            rust::state(&rust::mixer(s))
-        }),
+        row("quad readers", states(), ours::readers, rust::read),
         row(
             "five mixes, chosen",
             chosen_calls(),

@@ -1,15 +1,16 @@
 //! Mixes that are wrong on purpose, in the place of ours. Each follows the function of
 //! relay-mix-quad that it is named after (Apache-2.0), but for the one change.
 
+use relay_mix_quad::motors_to_torque_signs;
 use relay_mix_quad::passed_on::{clamp_floor, sanitise, scale_to_fit, solve3};
 
 use comparing::row::{row, Row};
 use comparing::table::Wrong;
 
-use super::call::{Call, Mix, State};
+use super::call::{self, sums, Call, Mix, State};
 use super::chains::{chains, Chain, CALLS};
-use super::inputs::calls;
-use super::rust::{called, chained, returned, After};
+use super::inputs::{calls, states};
+use super::rust::{called, chained, read, returned, After};
 use crate::equations::inputs::{PITCH, ROLL};
 use crate::numbers::rust::limit;
 
@@ -67,6 +68,7 @@ pub fn wrong() -> Wrong {
         chain_from_the_start,
         chained,
     ));
+    rows.extend(torques());
     rows.into()
 }
 
@@ -75,8 +77,8 @@ const YAW: [f32; 4] = [-1.0, 1.0, -1.0, 1.0];
 
 const ALL: [usize; 4] = [0, 1, 2, 3];
 
-fn state([a, b, c, d]: [f32; 4], scale: f32) -> State {
-    [a, b, c, d, scale]
+fn state(motors: [f32; 4], scale: f32) -> State {
+    call::state(motors, scale, motors_to_torque_signs(motors))
 }
 
 /// The Rust's state after a call.
@@ -104,7 +106,7 @@ fn plain_of_treated_sums(before: &State, call: &Call) -> State {
 
 /// Wrong in the scale, which thrust-floor and rotor-out record.
 fn scale_kept(before: &State, call: &Call) -> State {
-    let [a, b, c, d, _] = right(before, call);
+    let [a, b, c, d, ..] = right(before, call);
     state([a, b, c, d], before[4])
 }
 
@@ -235,4 +237,71 @@ fn rotor_out_modulo_four(before: &State, call: &Call) -> State {
 /// Wrong from the second call on, which is to go on from the state that the first left.
 fn chain_from_the_start(chain: &Chain) -> [After; CALLS] {
     chain.calls.map(|call| called(&(chain.start, call)))
+}
+
+// ---- the torque that is stored
+
+/// Mixes whose motors and scale are right.
+fn torques() -> Vec<Row> {
+    let wrong: [(&str, fn(&State, &Call) -> State); 4] = [
+        ("stored torque, as it was before", torque_kept),
+        ("stored torque, of the motors before", torque_before),
+        ("stored torque, yaw for pitch", torque_yaw_twice),
+        (
+            "stored torque, summed from the first product",
+            torque_from_first,
+        ),
+    ];
+    let mut rows: Vec<Row> = wrong
+        .into_iter()
+        .map(|(name, wrong)| row(name, chains(), move |c| chained_by(wrong, c), chained))
+        .collect();
+    rows.push(row(
+        "stored torque, worked out by its reader",
+        states(),
+        |s| worked_out(s),
+        read,
+    ));
+    rows
+}
+
+fn chained_by(wrong: fn(&State, &Call) -> State, chain: &Chain) -> [After; CALLS] {
+    let mut before = chain.start;
+    chain.calls.map(|call| {
+        before = wrong(&before, &call);
+        returned(before)
+    })
+}
+
+fn torque_kept(before: &State, call: &Call) -> State {
+    let [a, b, c, d, scale, ..] = right(before, call);
+    call::state([a, b, c, d], scale, sums(before))
+}
+
+fn torque_before(before: &State, call: &Call) -> State {
+    let [a, b, c, d, scale, ..] = right(before, call);
+    let [e, f, g, h, ..] = *before;
+    call::state([a, b, c, d], scale, motors_to_torque_signs([e, f, g, h]))
+}
+
+fn torque_yaw_twice(before: &State, call: &Call) -> State {
+    let [a, b, c, d, scale, roll, _, yaw] = right(before, call);
+    call::state([a, b, c, d], scale, [roll, yaw, yaw])
+}
+
+/// Wrong where all motors are zeros, two of them -0: each sum is to begin with +0.
+fn torque_from_first(before: &State, call: &Call) -> State {
+    let [a, b, c, d, scale, ..] = right(before, call);
+    let motors = [a, b, c, d];
+    let sum = |signs: [f32; 4]| {
+        let products = ALL.map(|i| signs[i] * motors[i]);
+        products.into_iter().reduce(|s, x| s + x).unwrap_or(0.0)
+    };
+    call::state(motors, scale, [sum(ROLL), sum(PITCH), sum(YAW)])
+}
+
+/// Wrong in a state whose sums are not those of its motors.
+fn worked_out(read: &State) -> State {
+    let [a, b, c, d, scale, ..] = *read;
+    state([a, b, c, d], scale)
 }

@@ -46,9 +46,18 @@ const NAN: f32 = f32::from_bits(0xff80_0001);
 /// States to start from, in turn.
 const STATES: [State; 4] = [
     FRESH,
-    [0.25, 0.5, 0.75, 1.0, 0.5],
-    [NAN, 0.5, f32::NAN, -0.0, NAN],
-    [f32::INFINITY, 2.0, -1.0, f32::NEG_INFINITY, -0.0],
+    [0.25, 0.5, 0.75, 1.0, 0.5, 1.0, -0.0, 0.5],
+    [NAN, 0.5, f32::NAN, -0.0, NAN, -1.0, NAN, f32::NAN],
+    [
+        f32::INFINITY,
+        2.0,
+        -1.0,
+        f32::NEG_INFINITY,
+        -0.0,
+        f32::INFINITY,
+        -0.0,
+        0.25,
+    ],
 ];
 
 /// A call of the bench figures and zeros, in steps that have every mix among the first few.

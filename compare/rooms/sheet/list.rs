@@ -2,10 +2,10 @@
 //! them; and the lines of the example sheets.
 //!
 //! Numbers are words of four bytes, little-endian. First how many records there are; then a record
-//! is 18 words:
+//! is 24 words:
 //!
 //!   length of the sheet, length of the output, number, entry,
-//!   the state before (four motors, scale), the state after,
+//!   the state before (four motors, scale, three sums), the state after,
 //!   an entry whose body is asked for, where that body begins, its length,
 //!   length of the text
 //!

@@ -143,7 +143,8 @@ fn call(sheet: &[u8], i: usize) -> Call {
 }
 
 /// Runs a sheet: "as the same calls one after another". A float goes out as its bits, and a NaN,
-/// which only a scale that was lent can be, as 7fc00000.
+/// which only a scale that was lent can be, as 7fc00000. The state has the sums of the last call's
+/// motors (document 02, K7), and where no call is made those that were lent.
 #[inline]
 pub fn run(sheet: &[u8], state: &State, out: &mut [u8]) -> Ran {
     let (number, entry) = judge(sheet, out.len());
@@ -163,10 +164,14 @@ pub fn run(sheet: &[u8], state: &State, out: &mut [u8]) -> Ran {
             out[at..at + 4].copy_from_slice(&bits(x).to_le_bytes());
         }
     }
+    let state = match count(sheet) {
+        0 => *state,
+        _ => rust::state(&mixer),
+    };
     Ran {
         number: 0,
         entry: 0,
-        state: rust::state(&mixer),
+        state,
     }
 }
 

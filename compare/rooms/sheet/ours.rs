@@ -23,7 +23,7 @@ extern "C" {
         i: usize,
         at: *mut usize,
     ) -> usize;
-    pub fn footspandle_sheet_run(
+    pub fn footspandle_sheet_run_quad32(
         sheet: *const u8,
         sheet_length: usize,
         state: *mut State,
@@ -50,7 +50,7 @@ impl Side for Ours {
     fn run(self, sheet: &[u8], state: &State, out: &mut [u8]) -> Ran {
         let (mut state, mut entry) = (*state, LENT_ENTRY);
         let number = unsafe {
-            footspandle_sheet_run(
+            footspandle_sheet_run_quad32(
                 sheet.as_ptr(),
                 sheet.len(),
                 &mut state,

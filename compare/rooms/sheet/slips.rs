@@ -6,7 +6,7 @@ use comparing::answer::bits;
 
 use super::model::{Ran, Told};
 use super::side::{Place, Side};
-use crate::quad::call::{Call, State, FRESH, MIXES};
+use crate::quad::call::{self, sums, Call, State, FRESH, MIXES};
 use crate::quad::rust;
 
 /// What is done wrong.
@@ -34,6 +34,8 @@ pub enum Slip {
     ScaleFromBefore,
     StateKept,
     StateOfRefused,
+    TorqueKept,
+    TorqueOfRefused,
     RunTillRefused,
     BytePast,
     PlainOfTwenty,
@@ -70,6 +72,11 @@ fn kind(sheet: &[u8], i: usize) -> usize {
 
 fn rotor(sheet: &[u8], i: usize) -> usize {
     byte(sheet, 5 + 4 * i)
+}
+
+/// A state with other sums.
+fn with_sums(&[a, b, c, d, scale, ..]: &State, sums: [f32; 3]) -> State {
+    call::state([a, b, c, d], scale, sums)
 }
 
 impl Slipped {
@@ -213,7 +220,7 @@ impl Slipped {
     }
 
     /// Writes an answer at its place, if there is room.
-    fn write(self, out: &mut [u8], i: usize, answer: &State) {
+    fn write(self, out: &mut [u8], i: usize, answer: [f32; 5]) {
         let bits = answer.map(|x| match self.0 {
             Slip::NanBitsKept => x.to_bits(),
             _ => bits(&x),
@@ -237,11 +244,11 @@ impl Slipped {
             rust::mix(&mut mixer, &self.call(sheet, which));
             let before = state[4];
             state = rust::state(&mixer);
-            let mut answer = state;
+            let [a, b, c, d, mut scale, ..] = state;
             if self.slips(Slip::ScaleFromBefore) {
-                answer[4] = before;
+                scale = before;
             }
-            self.write(out, i, &answer);
+            self.write(out, i, [a, b, c, d, scale]);
         }
         if entries != 0 && self.slips(Slip::BytePast) && 20 * entries < out.len() {
             out[20 * entries] = 0;
@@ -269,8 +276,10 @@ impl Side for Slipped {
         let after = self.run_entries(sheet, entries, start, out);
         let state = match (number, self.0) {
             (0, Slip::StateKept) => *start,
+            (0, Slip::TorqueKept) => with_sums(&after, sums(start)),
             (0, _) => after,
             (_, Slip::StateOfRefused) => FRESH,
+            (_, Slip::TorqueOfRefused) => rust::state(&rust::mixer(start)),
             _ => *start,
         };
         Ran {

@@ -11,7 +11,7 @@ use comparing::timing::{fold_bits, folded, pair, Side, Timing, MODEL};
 
 use super::good::sheet_of;
 use super::model::{self, ANSWER};
-use super::ours::{footspandle_sheet_check, footspandle_sheet_run};
+use super::ours::{footspandle_sheet_check, footspandle_sheet_run_quad32};
 use crate::quad::call::{Call, State, FRESH, MIXES};
 
 /// How many entries a sheet has.
@@ -26,7 +26,10 @@ pub fn timings(commands: &Commands) -> Vec<Timing> {
         pair: pair(&sheets, PART / ENTRIES, sides),
     };
     vec![
-        timing("sheet64", [run(footspandle_sheet_run), run(model_run)]),
+        timing(
+            "sheet64",
+            [run(footspandle_sheet_run_quad32), run(model_run)],
+        ),
         timing(
             "check64",
             [check(footspandle_sheet_check), check(model_check)],

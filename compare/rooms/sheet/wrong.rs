@@ -19,7 +19,7 @@ pub fn wrong() -> Wrong {
     }
 }
 
-const SLIPS: [(Slip, &str); 34] = [
+const SLIPS: [(Slip, &str); 36] = [
     (Slip::RefusesAll, "refuses everything"),
     (Slip::VersionUnread, "version not looked at"),
     (Slip::SixtyFiveEntries, "65 entries accepted"),
@@ -53,6 +53,11 @@ const SLIPS: [(Slip, &str); 34] = [
     (Slip::ScaleFromBefore, "scale from before the call"),
     (Slip::StateKept, "state kept after an accepted sheet"),
     (Slip::StateOfRefused, "state changed after a refused one"),
+    (Slip::TorqueKept, "torque kept after an accepted sheet"),
+    (
+        Slip::TorqueOfRefused,
+        "torque worked out after a refused one",
+    ),
     (
         Slip::RunTillRefused,
         "entries before a refused one run all the same",

@@ -79,7 +79,7 @@ fn by_rows(f: &Floored) -> Record {
 
 /// By the quad's rows, with the answers of the Rust's quad.
 fn by_the_quad(input: &(State, Call)) -> Record {
-    let (motors, [.., scale]) = called(input);
+    let (motors, [_, _, _, _, scale, ..]) = called(input);
     let (_, call) = input;
     let (lent, _) = by_quad_rows(call);
     scaled_record(&asked(call), lent.rows(), &motors, scale)

@@ -96,7 +96,7 @@ fn model_quad((_, call): &(State, Call)) -> Scaled {
 /// The motors that the Rust's quad returns, at the start of the room, and the scale that it
 /// records.
 fn rust_quad(asked: &(State, Call)) -> Scaled {
-    let (motors, [.., scale]) = called(asked);
+    let (motors, [_, _, _, _, scale, ..]) = called(asked);
     let mut out = [LENT; MOST_LENT];
     out[..4].copy_from_slice(&motors);
     ((0, out), scale)

@@ -5,12 +5,15 @@
 use extremes::largest;
 use extremes::least;
 use number::SMALL;
-use number::clamp_floor;
+use number::is_finite;
 use number::limit;
 use number::pick;
 use number::sanitise;
 use rotors::command::deltas;
 ghost use mathlib.Core.Path.{_≡_};
+ghost use Rattle.binary32.specs.Arithmetic.{0f, 1f};
+ghost use Rattle.binary32.specs.Range.{Between};
+ghost use Rattle.number.specs.Treat.{floorClamp};
 ghost use Rattle.rules.specs.Rows.{quadRows};
 ghost use Rattle.rules.specs.Airmode.{spread, spreadScale, unshifted, shift, shifted, airmodeMotors};
 
@@ -44,16 +47,27 @@ fn shift(idle: f32, lo: f32, hi: f32) -> f32
     pick(lo < idle, idle - lo, pick(hi > 1.0, -(hi - 1.0), 0.0))
 }
 
+// A motor's command held to idle..1, as `clamp_floor` does it for any floor: idle is in 0..1 here, so that its ends can
+// be looked at in turn, which is an instruction for each.
+fn hold(x: f32, idle: f32) -> f32
+    requires { ⌜ Between 0f 1f idle ⌝ }
+    ensures { λ r. ⌜ r ≡ floorClamp x idle ⌝ }
+{
+    let low = pick(x > 1.0, 1.0, x);
+    pick(is_finite(x), pick(low < idle, idle, low), idle)
+}
+
 // All motors moved, and what still passes idle..1 cut. A shift of +0 is added too: it turns a -0 into +0.
 fn shifted(idle: f32, m: [f32; 4]) -> [f32; 4]
+    requires { ⌜ Between 0f 1f idle ⌝ }
     ensures { λ r. ⌜ r ≡ shifted idle m ⌝ }
 {
     let by = shift(idle, least(&m), largest(&m));
     [
-        clamp_floor(m[0] + by, idle),
-        clamp_floor(m[1] + by, idle),
-        clamp_floor(m[2] + by, idle),
-        clamp_floor(m[3] + by, idle),
+        hold(m[0] + by, idle),
+        hold(m[1] + by, idle),
+        hold(m[2] + by, idle),
+        hold(m[3] + by, idle),
     ]
 }
 

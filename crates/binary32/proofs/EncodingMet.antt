@@ -1,26 +1,26 @@
 -- What the kit reads from a bit pattern, `ofBits`, is what the rows of IEEE 754-2019, 3.4, say that it encodes, for
 -- every pattern of the format's width, and they say it of no other value. What the kit writes for a value, `toBits`, is
 -- a pattern that encodes it, the only one unless it is a NaN (specs/Encoding.antt). So the exponent's field of a
--- pattern tells whether the value is finite. In either format. Assumes nothing.
+-- pattern tells whether the value is finite, and how large it is at most. In either format. Assumes nothing.
 use mathlib.Core.Path.{_≡_, refl, sym, ap, _∙_, subst}
 use mathlib.Core.Bool.{Bool, true, not, cond}
-use Prim.Native.Nat.{ℕ, zero, suc, _+_, _-_, _*_, _^_, _<_}
-use native.Mathlib.Nat.{eq-of-mul-eq-mul-right, mul-pos}
+use Prim.Native.Nat.{ℕ, zero, suc, _+_, _-_, _*_, _^_, _≤_, _<_}
+use native.Mathlib.Nat.{eq-of-mul-eq-mul-right, mul-pos, mul-le-mul-left, mul-le-mul-right, le-trans, le-of-eq}
 use native.Mathlib.Nat.{mul-assoc, mul-comm, mul-left-comm, pow-suc}
 use native.Mathlib.Omega.{arith}
 use borrow.Author.Tests.{eq-eqb, ne-eqb}
 use lib.Dec.{T, eqb}
-use lib.Pow.{pow-pos, pow-add}
+use lib.Pow.{pow-pos, pow-add, pow-mono}
 use lib.Ieee.{Float, nan, inf, fin, Format, prec, low, odd, fits, isNan, hid, ones, ofFields, ofBits, toBits}
 use lib.Ieee.Bits.{is-true, ofBits-fits, ofBits-toBits, toBits-lt, toBits-ofBits}
 use lib.Ieee.Exact.{HasValue, odd-sign}
 use lib.Ieee.Scale.{finite}
-use Rattle.binary32.specs.Whole.{negative}
+use Rattle.binary32.specs.Whole.{negative, magnitude}
 use Rattle.binary32.specs.Operations.{zeroOf}
 use Rattle.binary32.specs.Encoding.{width, trailingWidth, bias, exponentField, trailingField, signSet}
 use Rattle.binary32.specs.Encoding.{allOnes, Value, Encodes}
-use Rattle.binary32.proofs.Magnitude.{is-finite, finite-number, magnitude-of, same-number}
-use Rattle.binary32.proofs.Fields.{table, by-row, kit-sign, kit-exponent, kit-trailing}
+use Rattle.binary32.proofs.Magnitude.{is-finite, finite-number, magnitude-of, magnitude-zero, same-number}
+use Rattle.binary32.proofs.Fields.{table, trailing-in, by-row, kit-sign, kit-exponent, kit-trailing}
 
 -- ---- the kit's reading of three fields
 
@@ -46,11 +46,13 @@ read f b h = rw (kit-sign f b h, kit-exponent f b, kit-trailing f b)
 -- ---- a number of so many units
 
 -- (1 + 2 ^ (1 - p) * T) * 2 ^ (E - bias), multiplied out, is so many units: one is 2 ^ (1 - bias) * 2 ^ (1 - p)
+two-units : (f : Format) → 2 ^ bias f * 2 ^ trailingWidth f ≡ 2 ^ low f * 2
+two-units f =
+    sym (pow-add 2 (bias f) (trailingWidth f)) ∙ ap (λ (n : ℕ). 2 ^ n) (sym (table f .one-unit)) ∙ pow-suc 2 (low f)
+
 in-units : (f : Format) (q j : ℕ) → q * 2 ^ j * (2 ^ bias f * 2 ^ trailingWidth f) ≡ 2 ^ suc j * q * 2 ^ low f
 in-units f q j =
-    let unit : 2 ^ bias f * 2 ^ trailingWidth f ≡ 2 ^ low f * 2 =
-    sym (pow-add 2 (bias f) (trailingWidth f)) ∙ ap (λ (n : ℕ). 2 ^ n) (sym (table f .one-unit)) ∙ pow-suc 2 (low f) in
-    ap (λ (n : ℕ). q * 2 ^ j * n) unit ∙ simp (pow-suc, mul-assoc, mul-comm, mul-left-comm)
+    ap (λ (n : ℕ). q * 2 ^ j * n) (two-units f) ∙ simp (pow-suc, mul-assoc, mul-comm, mul-left-comm)
 
 finite-value : (x : Float) (s : Bool) (a c : ℕ) → HasValue x s a c → T (finite x)
 finite-value nan s a c h = h
@@ -178,3 +180,39 @@ read-finite f b h = finite-by-exponent b (decoding f b h)
 pub written-finite : (f : Format) (x : Float) → T (fits f x)
     → finite x ≡ not (eqb (exponentField f (toBits f x)) (allOnes f))
 written-finite f x h = finite-by-exponent (toBits f x) (encoding f x h)
+
+-- ---- the size, by the exponent's field
+
+value-size : {f : Format} {s : Bool} {n : ℕ} {x : Float} → Value f s n x → magnitude f x * 2 ≡ n
+value-size {f} {n} {x} v =
+    eq-of-mul-eq-mul-right (2 ^ low f) (pow-pos (low f)) (magnitude f x * 2) n
+    (mul-assoc (magnitude f x) 2 (2 ^ low f)
+    ∙ ap (λ (c : ℕ). magnitude f x * c) (mul-comm 2 (2 ^ low f) ∙ sym (two-units f))
+    ∙ v .size)
+
+zero-size : (f : Format) (s : Bool) → magnitude f (zeroOf s) ≡ 0
+zero-size f s = magnitude-zero f s _
+
+-- a field of at most k says that the size is at most 2 ^ (k + t) units
+pub exponent-size : {f : Format} (b : ℕ) {x : Float} → Encodes f b x → (k : ℕ) → exponentField f b ≤ k → k < allOnes f
+    → magnitude f x ≤ 2 ^ (k + trailingWidth f)
+exponent-size {f} b {x} v k h l =
+    by-row f b
+    (λ e t. over-all e)
+    (λ e t. over-all e)
+    (λ p q.
+    let powers : 2 ^ exponentField f b * (2 ^ trailingWidth f + trailingField f b) ≤ 2 ^ k * (2 ^ trailingWidth f * 2) =
+    le-trans (mul-le-mul-right (2 ^ trailingWidth f + trailingField f b) (pow-mono h))
+    (mul-le-mul-left (2 ^ k) (omega (arith, trailing-in f b))) in
+    halve (le-trans (le-of-eq (value-size (v .normal p q))) powers))
+    (λ e t. small (omega (arith, value-size (v .subnormal e t), trailing-in f b)))
+    (λ e t. small (omega (arith, ap (magnitude f) (v .zero e t) ∙ zero-size f (signSet f b))))
+  where
+    over-all : exponentField f b ≡ allOnes f → magnitude f x ≤ 2 ^ (k + trailingWidth f)
+    over-all e = absurd (omega (arith, h, l, e))
+
+    halve : magnitude f x * 2 ≤ 2 ^ k * (2 ^ trailingWidth f * 2) → magnitude f x ≤ 2 ^ (k + trailingWidth f)
+    halve m = omega (arith, m, pow-add 2 k (trailingWidth f), sym (mul-assoc (2 ^ k) (2 ^ trailingWidth f) 2))
+
+    small : magnitude f x ≤ 2 ^ trailingWidth f → magnitude f x ≤ 2 ^ (k + trailingWidth f)
+    small m = le-trans m (pow-mono (omega arith))

@@ -28,6 +28,7 @@ pub mod Absolute
 pub mod Masked
 pub mod Range
 pub mod Overflow
+pub mod Sizes
 pub mod NearExamples
 pub mod LessOne
 pub mod Zero

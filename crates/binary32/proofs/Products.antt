@@ -1,6 +1,6 @@
 -- A product by 1 is the value itself, by bits, and one by -1 has its size. A product by a factor in 0..1 is no larger
 -- in size, and keeps the order. Assumes nothing.
-use mathlib.Core.Path.{_≡_, refl, sym, _∙_, subst₂}
+use mathlib.Core.Path.{_≡_, refl, sym, ap, _∙_, subst₂}
 use Prim.Native.Nat.{ℕ, _+_, _-_, _*_, _^_, _≤_}
 use native.Mathlib.Nat.{mul-sub, mul-comm, mul-one, one-mul, zero-mul, mul-add}
 use native.Mathlib.Nat.{add-mul, div-one, mul-le-mul-right, mul-le-mul-left}
@@ -116,6 +116,10 @@ pub minus-one-product-finite : {f : Format} {x : Float} → Finite f x → Finit
 minus-one-product-finite {f} {x} h =
     let u = unit-finite f in
     under-finite (mul-rounded (neg-finite u) h .number) (rw (turned-size u h) (finite-under (one-product-finite h)))
+
+-- a product by -1 has the size of the value
+pub minus-one-size : {f : Format} {x : Float} → Finite f x → magnitude f (mul f (neg unit) x) ≡ magnitude f x
+minus-one-size {f} {x} h = turned-size (unit-finite f) h ∙ ap (magnitude f) (one-times f x (h .fits))
 
 -- ---- a factor in 0..1
 

@@ -24,3 +24,9 @@ unfolding isNan
 nan-not-finite nan h = refl
 nan-not-finite (inf s) h = refl
 nan-not-finite (fin s m e) h = cc
+
+pub finite-not-nan : (x : Float) → finite x ≡ true → isNan x ≡ false
+unfolding isNan
+finite-not-nan nan h = cc
+finite-not-nan (inf s) h = refl
+finite-not-nan (fin s m e) h = refl

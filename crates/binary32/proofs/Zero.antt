@@ -1,20 +1,20 @@
 -- What is zero and what is not, at binary32. A product by +0 is a zero, and so is a sum of zeros. The difference of two
 -- numbers of which one is the smaller is no zero, since one unit is a value of the format: it is under zero where the
 -- first is the smaller, and over zero where the second is. Assumes nothing.
-use mathlib.Core.Path.{_≡_, refl}
-use mathlib.Core.Bool.{true}
+use mathlib.Core.Path.{_≡_, refl, sym, subst}
+use mathlib.Core.Bool.{Bool, true, false}
 use Prim.Native.Nat.{ℕ, _-_, _<_}
 use native.Mathlib.Nat.{zero-mul}
 use native.Mathlib.Omega.{arith}
 use lib.Pow.{pow-pos}
-use lib.Ieee.{Float, Format, binary32, binary64, low, round, lt}
+use lib.Ieee.{Float, Format, binary32, binary64, low, round, neg, lt, ofBits}
 use Rattle.binary32.specs.Arithmetic.{_+f_, _-f_, _*f_, 0f}
-use Rattle.binary32.specs.Whole.{magnitude}
-use Rattle.binary32.proofs.Magnitude.{Finite, finite-number}
+use Rattle.binary32.specs.Whole.{negative, magnitude}
+use Rattle.binary32.proofs.Magnitude.{Finite, finite-number, same-number}
 use Rattle.binary32.proofs.Comparison.{lt-units, units-lt}
-use Rattle.binary32.proofs.RoundedSize.{roundedTo, nothing-short, rounded-nothing, rounded-mono}
+use Rattle.binary32.proofs.RoundedSize.{roundedTo, nothing-short, rounded-nothing, rounded-mono, over-and-under}
 use Rattle.binary32.proofs.Rounded.{Rounded, Exactly, exactly, by-fraction, by-difference}
-use Rattle.binary32.proofs.Operations.{add-rounded, sub-rounded, mul-rounded}
+use Rattle.binary32.proofs.Operations.{add-rounded, sub-rounded, mul-rounded, neg-finite}
 use Rattle.binary32.proofs.Range.{zero-finite, zero-number, zero-over, zero-under}
 
 -- ---- zeros, of either sign
@@ -32,6 +32,20 @@ pub zero-sum : {x y : Float} → Exactly binary32 x 0 → Exactly binary32 y 0 �
 zero-sum hx hy =
     nothing (by-difference (add-rounded (hx .finite) (hy .finite)) 0 0
     (omega (arith, hx .above, hx .below, hy .above, hy .below)))
+
+-- what holds of both zeros holds of what is exactly zero
+pub by-zero : {z : Float} (P : Float → Type 0) → P 0f → P (neg 0f) → Exactly binary32 z 0 → P z
+unfolding neg negative magnitude ofBits
+by-zero {z} P positive minus h = go (negative z) refl
+  where
+    none : magnitude binary32 z ≡ 0
+    none = omega (arith, h .above, h .below, over-and-under binary32 z)
+
+    go : (s : Bool) → negative z ≡ s → P z
+    go false s = subst P (sym (same-number (finite-number (h .finite)) zero-number s none)) positive
+    go true s =
+        let turned = finite-number (neg-finite zero-finite) in
+        subst P (sym (same-number (finite-number (h .finite)) turned s none)) minus
 
 -- ---- a rounding of what is not nothing is not nothing, and has its sign
 

@@ -44,6 +44,9 @@ module _ (torque : List Float) (thrust floor : Float) (failed : ℕ) (before : Q
   pub quad-last-torque-scale-determined : Determined (λ r. r ≡ before .«last_torque_scale»)
   quad-last-torque-scale-determined = equal-determined
 
+  pub quad-last-torque-determined : Determined (λ sums. sums ≡ before .«last_torque»)
+  quad-last-torque-determined = equal-determined
+
   pub quad-mix-determined : Determined (PlainGives before torque thrust)
   quad-mix-determined = quad-determined.mix-determined torque torque thrust floor failed before
 

@@ -1,5 +1,5 @@
--- What a refusal leaves as it was. Where `footspandle_sheet_run` answers a number other than 0: the state and the
--- output. Where `footspandle_mixer_mix_thrust_floor` does: the outputs, and what is lent for the scale.
+-- What a refusal leaves as it was. Where `footspandle_sheet_run_quad32` answers a number other than 0: the state and
+-- the output. Where `footspandle_mixer_mix_thrust_floor` does: the outputs, and what is lent for the scale.
 -- Assumes nothing.
 use mathlib.Core.Path.{_≡_, refl, sym, subst, ap, _∙_}
 use mathlib.Core.Bool.{not}

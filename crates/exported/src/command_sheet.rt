@@ -75,7 +75,7 @@ fn run_from(sheet: &[u8], before: QuadMixer, out: &mut [u8], entry_number: &mut 
 
 // A refused run writes nothing to the state.
 #[no_mangle]
-pub extern "C" fn footspandle_sheet_run(
+pub extern "C" fn footspandle_sheet_run_quad32(
     sheet: &[u8],
     state: &mut QuadMixer,
     out: &mut [u8],

@@ -4,7 +4,9 @@
 // Follows relay-mix-quad's `&mut self` methods (Apache-2.0, see NOTICE); changed: written in Rattle with contracts;
 // each is a thin function over the mix by value, exported to C, and returns nothing.
 //
-// A contract here is that of the function by value, promises and all, said of the state that stands there.
+// A contract here is that of the function by value, promises and all, said of the state that stands there. The 32 in
+// the names is the size of that state in bytes: what was compiled for a state of another size asks for other names,
+// and does not link (bindings/declarations holds the one to the other).
 ghost use mathlib.Core.Path.{_≡_};
 ghost use Rattle.rules.specs.Rows.{quadRows};
 ghost use Rattle.rules.specs.Torque.{torqueOf};
@@ -64,7 +66,7 @@ fn after_rotor_out(
 
 // What stood there is not read.
 #[no_mangle]
-pub extern "C" fn footspandle_quad_new(state: &mut QuadMixer)
+pub extern "C" fn footspandle_quad32_new(state: &mut QuadMixer)
     ensures { λ _. ⌜ now (state .exit) ≡ fresh ⌝ }
 {
     let new = QuadMixer::new();
@@ -72,7 +74,7 @@ pub extern "C" fn footspandle_quad_new(state: &mut QuadMixer)
 }
 
 #[no_mangle]
-pub extern "C" fn footspandle_quad_last_motors(state: &QuadMixer, motors: &mut [f32; 4])
+pub extern "C" fn footspandle_quad32_last_motors(state: &QuadMixer, motors: &mut [f32; 4])
     ensures { λ _. ⌜ now (motors .exit) ≡ now (state .entry) .«last_motors» ⌝ }
 {
     let q = *state;
@@ -81,17 +83,26 @@ pub extern "C" fn footspandle_quad_last_motors(state: &QuadMixer, motors: &mut [
 }
 
 #[no_mangle]
-pub extern "C" fn footspandle_quad_last_torque_scale(state: &QuadMixer) -> f32
+pub extern "C" fn footspandle_quad32_last_torque_scale(state: &QuadMixer) -> f32
     ensures { λ r. ⌜ r ≡ now (state .entry) .«last_torque_scale» ⌝ }
 {
     let q = *state;
     q.last_torque_scale()
 }
 
+#[no_mangle]
+pub extern "C" fn footspandle_quad32_last_torque(state: &QuadMixer, sums: &mut [f32; 3])
+    ensures { λ _. ⌜ now (sums .exit) ≡ now (state .entry) .«last_torque» ⌝ }
+{
+    let q = *state;
+    let last = q.last_torque();
+    *sums = last;
+}
+
 // ---- the mixes
 
 #[no_mangle]
-pub extern "C" fn footspandle_quad_mix(state: &mut QuadMixer, torque_body: &[f32; 3], thrust: f32)
+pub extern "C" fn footspandle_quad32_mix(state: &mut QuadMixer, torque_body: &[f32; 3], thrust: f32)
     ensures { λ _. ⌜ PlainGives (now (state .entry)) (now («torque_body» .entry)) thrust (now (state .exit)) ⌝ }
 {
     let before = *state;
@@ -100,7 +111,7 @@ pub extern "C" fn footspandle_quad_mix(state: &mut QuadMixer, torque_body: &[f32
 }
 
 #[no_mangle]
-pub extern "C" fn footspandle_quad_mix_thrust_floor(
+pub extern "C" fn footspandle_quad32_mix_thrust_floor(
     state: &mut QuadMixer,
     torque_body: &[f32; 3],
     thrust: f32,
@@ -116,7 +127,7 @@ pub extern "C" fn footspandle_quad_mix_thrust_floor(
 }
 
 #[no_mangle]
-pub extern "C" fn footspandle_quad_mix_priority(
+pub extern "C" fn footspandle_quad32_mix_priority(
     state: &mut QuadMixer,
     torque_body: &[f32; 3],
     thrust: f32,
@@ -132,7 +143,7 @@ pub extern "C" fn footspandle_quad_mix_priority(
 }
 
 #[no_mangle]
-pub extern "C" fn footspandle_quad_mix_airmode(
+pub extern "C" fn footspandle_quad32_mix_airmode(
     state: &mut QuadMixer,
     torque_body: &[f32; 3],
     thrust: f32,
@@ -146,7 +157,7 @@ pub extern "C" fn footspandle_quad_mix_airmode(
 }
 
 #[no_mangle]
-pub extern "C" fn footspandle_quad_mix_rotor_out(
+pub extern "C" fn footspandle_quad32_mix_rotor_out(
     state: &mut QuadMixer,
     failed: usize,
     torque_body: &[f32; 3],

@@ -1,1 +1,2 @@
 pub mod Treat
+pub mod Moderate

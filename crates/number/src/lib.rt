@@ -7,6 +7,7 @@ ghost use mathlib.Core.Path.{_≡_};
 ghost use mathlib.Core.Bool.{cond};
 ghost use lib.Ieee.{isNan};
 ghost use lib.Ieee.Scale.{finite};
+ghost use Rattle.number.specs.Moderate.{moderate};
 ghost use Rattle.number.specs.Treat.{treated, clamped, limited, floorClamp, unitClamp};
 
 // Document 01's small, a threshold of three rules: the fit scale's for a delta, airmode's for a spread, and the
@@ -33,6 +34,20 @@ pub fn is_finite(x: f32) -> bool
         return false;
     }
     f32::to_bits(x) / DIGITS % EXPONENTS != ALL_ONES
+}
+
+// The exponent's field of 2^125, the least number that is not moderate.
+const LARGE: u32 = 252;
+
+// Whether x is finite and under 2^125 in size, by the exponent's field of its bits: sums of three such numbers are
+// finite, so that code which has asked this first can leave out what it would test of each.
+pub fn is_moderate(x: f32) -> bool
+    ensures { λ r. ⌜ r ≡ moderate x ⌝ }
+{
+    if is_finite(x) {
+        return f32::to_bits(x) / DIGITS % EXPONENTS < LARGE;
+    }
+    false
 }
 
 // Whether x is a NaN: only a NaN differs from itself.

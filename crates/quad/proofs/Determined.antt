@@ -26,6 +26,9 @@ module _ (torque motors : List Float) (thrust floor : Float) (failed : ℕ) (bef
   pub last-torque-scale-determined : Determined (λ r. r ≡ before .«last_torque_scale»)
   last-torque-scale-determined = equal-determined
 
+  pub last-torque-determined : Determined (λ r. r ≡ before .«last_torque»)
+  last-torque-determined = equal-determined
+
   pub mix-determined : Determined (PlainGives before torque thrust)
   mix-determined = mixed-determined
 

@@ -5,27 +5,31 @@
 // stands in a crate of its own.
 //
 // What each mix gives is said in specs/Mixes: the motors and the promises by the crate `rules`, and the recorded scale.
+// A state keeps the torque that its motors give, beside what the Rust's has (specs/State).
 ghost use mathlib.Core.Path.{_≡_};
 ghost use Rattle.rules.specs.Rows.{quadRows};
 ghost use Rattle.rules.specs.Torque.{torqueOf};
 ghost use Rattle.quad.specs.Mixes.{PlainGives, ThrustFloorGives, PriorityGives, AirmodeGives, RotorOutGives};
 ghost use Rattle.quad.specs.State.{state, fresh};
 
-// The last motors, and the torque scale that the last thrust-floor or rotor-out recorded. The other mixes leave the
-// scale as it is.
+// The last motors, the torque scale that the last thrust-floor or rotor-out recorded, which the other mixes leave as it
+// is, and the torque that the last motors give.
 #[repr(C)]
 pub struct QuadMixer {
     pub last_motors: [f32; 4],
     pub last_torque_scale: f32,
+    pub last_torque: [f32; 3],
 }
 
-// Every new state is made here.
+// Every new state is made here, so that none is without the torque of its motors.
 fn state(motors: [f32; 4], scale: f32) -> QuadMixer
     ensures { λ r. ⌜ r ≡ state motors scale ⌝ }
 {
+    let torque = torque::torque_of(motors);
     QuadMixer {
         last_motors: motors,
         last_torque_scale: scale,
+        last_torque: torque,
     }
 }
 
@@ -63,6 +67,14 @@ impl QuadMixer {
         ensures { λ r. ⌜ r ≡ self .«last_torque_scale» ⌝ }
     {
         self.last_torque_scale
+    }
+
+    // The roll, pitch and yaw sums that are stored: what `motors_to_torque_signs` gives of the last motors, without
+    // working it out. Of a state that a caller made of any bits, those bits.
+    pub fn last_torque(self) -> [f32; 3]
+        ensures { λ r. ⌜ r ≡ self .«last_torque» ⌝ }
+    {
+        self.last_torque
     }
 
     // Priority: thrust before torque, which is given up in two groups, yaw, and roll and pitch; each motor in floor..1.

@@ -12,7 +12,7 @@
 // - 1 `sanitise`, 2 `limit`, 3 `clamp01`, 4 from bits to bits: a number. 5 `clamp_floor`: a number and a floor.
 // - 6 `scale`: a floor, and for 0 to 4 motors their bases and then their deltas. 7 `det3`: a matrix. 8 `solve3`: a
 //   matrix and a right side.
-// - 9 a state of the quad: four motors and a scale. 10 `new`: nothing.
+// - 9 a state of the quad: four motors, a scale and three sums. 10 `new`: nothing.
 // - 11 `mix`: roll, pitch, yaw, thrust. 12 `mix_thrust_floor`, 13 `mix_priority`, 14 `mix_airmode`: the same and a
 //   floor.
 // - `mix_rotor_out` of rotor 0 to 3 in 16 to 19, of rotor 4 in 20, of 255 in 21, of the largest usize in 22: the same
@@ -28,8 +28,8 @@
 //   records with the quad's rows have the answers of the Rust's quad.
 //
 // The program holds one state of the quad, a new one at the start. A record of 9 to 22 changes it, and its answers are
-// the four motors and the scale that the readers then give; so each is compared from the state that the records before
-// it left.
+// the four motors, the scale and the three sums that the readers then give; so each is compared from the state that the
+// records before it left. The Rust stores no sums: after a mix they are those that its `motors_to_torque_signs` gives.
 //
 // A float is written as its bits, and an answer that is a NaN as 7fc00000, just as `bits_of` writes ours, so any NaN
 // agrees with any other. A truth is 1 or 0. A head that no file has counts as a difference, and so does a list that is

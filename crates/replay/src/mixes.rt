@@ -10,19 +10,19 @@ use quad::motors_to_torque_signs;
 
 pub(crate) fn answer(head: u32, x: &[f32; INPUTS], state: QuadMixer) -> Ours {
     match head {
-        0x0905_0005 => read(set(x)),
-        0x0a05_0000 => read(QuadMixer::new()),
-        0x0b05_0004 => read(state.mix(torque(x), x[3])),
-        0x0c05_0005 => read(state.mix_thrust_floor(torque(x), x[3], x[4])),
-        0x0d05_0005 => read(state.mix_priority(torque(x), x[3], x[4])),
-        0x0e05_0005 => read(state.mix_airmode(torque(x), x[3], x[4])),
-        0x1005_0005 => read(rotor_out(state, 0, x)),
-        0x1105_0005 => read(rotor_out(state, 1, x)),
-        0x1205_0005 => read(rotor_out(state, 2, x)),
-        0x1305_0005 => read(rotor_out(state, 3, x)),
-        0x1405_0005 => read(rotor_out(state, 4, x)),
-        0x1505_0005 => read(rotor_out(state, 255, x)),
-        0x1605_0005 => read(rotor_out(state, usize::MAX, x)),
+        0x0908_0008 => read(set(x)),
+        0x0a08_0000 => read(QuadMixer::new()),
+        0x0b08_0004 => read(state.mix(torque(x), x[3])),
+        0x0c08_0005 => read(state.mix_thrust_floor(torque(x), x[3], x[4])),
+        0x0d08_0005 => read(state.mix_priority(torque(x), x[3], x[4])),
+        0x0e08_0005 => read(state.mix_airmode(torque(x), x[3], x[4])),
+        0x1008_0005 => read(rotor_out(state, 0, x)),
+        0x1108_0005 => read(rotor_out(state, 1, x)),
+        0x1208_0005 => read(rotor_out(state, 2, x)),
+        0x1308_0005 => read(rotor_out(state, 3, x)),
+        0x1408_0005 => read(rotor_out(state, 4, x)),
+        0x1508_0005 => read(rotor_out(state, 255, x)),
+        0x1608_0005 => read(rotor_out(state, usize::MAX, x)),
         0x1703_0004 => torque_of(state, x),
         _ => frames::answer(head, x, state),
     }
@@ -31,17 +31,20 @@ pub(crate) fn answer(head: u32, x: &[f32; INPUTS], state: QuadMixer) -> Ours {
 // A new state as the answer.
 fn read(state: QuadMixer) -> Ours {
     let m = state.last_motors();
+    let scale = state.last_torque_scale();
+    let sums = state.last_torque();
     told(
-        words_of(&[m[0], m[1], m[2], m[3], state.last_torque_scale()]),
+        words_of(&[m[0], m[1], m[2], m[3], scale, sums[0], sums[1], sums[2]]),
         state,
     )
 }
 
-// The inputs are the state itself: the motors and the scale.
+// The inputs are the state itself: the motors, the scale and the sums.
 fn set(x: &[f32; INPUTS]) -> QuadMixer {
     QuadMixer {
         last_motors: motors(x),
         last_torque_scale: x[4],
+        last_torque: [x[5], x[6], x[7]],
     }
 }
 

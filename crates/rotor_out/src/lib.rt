@@ -1,7 +1,6 @@
 // The mix for a lost rotor. Follows relay-mix-quad's `mix_rotor_out` (Apache-2.0, see NOTICE); changed: written in
 // Rattle with contracts, with choices in the place of branches, the loops over four motors written out, and the lost
 // rotor's number written out where its equations are solved.
-use number::clamp;
 use number::clamp_floor;
 use number::limit;
 use number::pick;
@@ -17,19 +16,27 @@ ghost use mathlib.Core.Path.{_≡_};
 ghost use mathlib.Core.Bool.{cond};
 ghost use mathlib.Core.List.{map};
 ghost use Prim.Native.Nat.{_<_};
-ghost use lib.Dec.{ltb};
+ghost use lib.Dec.{T, ltb};
+ghost use lib.Ieee.{nan};
+ghost use lib.Ieee.Scale.{finite};
+ghost use lib.ListN.{getD};
+ghost use Rattle.binary32.specs.Arithmetic.{_+f_, _*f_, 0f};
+ghost use Rattle.number.specs.Treat.{treated, floorClamp};
 ghost use Rattle.rules.specs.Rows.{quadRows};
 ghost use Rattle.rules.specs.RotorOut.{tilt, tiltMotor, equations, placed, baseWithout, deltaWithout};
-ghost use Rattle.rules.specs.RotorOut.{motorWithout, motorsWithout, rotorOutMotors};
+ghost use Rattle.rules.specs.RotorOut.{motorsWithout, rotorOutMotors};
 
 // A torque this large is far outside flight; held to it, the three equations never overflow.
 const TAU_BOUND: f32 = 8.0;
 
-// A roll or pitch torque as this mix takes it.
+// A roll or pitch torque as this mix takes it. The second end is looked at in what the first left, which is one
+// instruction for each where the ends are in order.
 fn tilt(x: f32) -> f32
     ensures { λ r. ⌜ r ≡ tilt x ⌝ }
 {
-    clamp(sanitise(x), -TAU_BOUND, TAU_BOUND)
+    let t = sanitise(x);
+    let low = pick(t > TAU_BOUND, TAU_BOUND, t);
+    pick(low < -TAU_BOUND, -TAU_BOUND, low)
 }
 
 // A motor's command where no rotor is lost.
@@ -121,31 +128,39 @@ fn split_without(failed: usize, t: f32, r: f32, p: f32) -> Split
     }
 }
 
-// A motor's command where a rotor is lost: the lost one's is +0.
-fn motor_without(failed: usize, floor: f32, s: f32, b: [f32; 4], d: [f32; 4], i: usize) -> f32
-    requires { ⌜ i < 4 ⌝ }
-    ensures { λ m. ⌜ m ≡ motorWithout failed floor s b d i ⌝ }
+// What the floor counts for each rotor, for each lost one: nothing for the lost rotor, whose base and delta are 0, so
+// that it ends at +0. A choice by the rotor's number would come to the same, and cost the compiler more.
+const COUNTS: [[f32; 4]; 4] = [
+    [0.0, 1.0, 1.0, 1.0],
+    [1.0, 0.0, 1.0, 1.0],
+    [1.0, 1.0, 0.0, 1.0],
+    [1.0, 1.0, 1.0, 0.0],
+];
+
+// A motor's command where a rotor is lost.
+fn motor_without(counts: f32, floor: f32, s: f32, b: f32, d: f32) -> f32
+    ensures { λ m. ⌜ m ≡ floorClamp (treated (b +f s *f d)) (counts *f floor) ⌝ }
 {
-    pick(
-        i == failed,
-        0.0,
-        clamp_floor(sanitise(b[i] + s * d[i]), floor),
-    )
+    clamp_floor(sanitise(b + s * d), counts * floor)
 }
 
 fn motors_without(failed: usize, floor: f32, b: [f32; 4], d: [f32; 4]) -> [f32; 4]
+    requires { ⌜ (failed < 4) × T (finite floor) × (getD b failed nan ≡ 0f) × (getD d failed nan ≡ 0f) ⌝ }
     ensures { λ m. ⌜ m ≡ motorsWithout failed floor b d ⌝ }
 {
     let s = fit::scale(&b, &d, floor);
+    let table = COUNTS;
+    let counts = table[failed];
     [
-        motor_without(failed, floor, s, b, d, 0),
-        motor_without(failed, floor, s, b, d, 1),
-        motor_without(failed, floor, s, b, d, 2),
-        motor_without(failed, floor, s, b, d, 3),
+        motor_without(counts[0], floor, s, b[0], d[0]),
+        motor_without(counts[1], floor, s, b[1], d[1]),
+        motor_without(counts[2], floor, s, b[2], d[2]),
+        motor_without(counts[3], floor, s, b[3], d[3]),
     ]
 }
 
 fn allotted(failed: usize, floor: f32, t: f32, r: f32, p: f32) -> [f32; 4]
+    requires { ⌜ T (finite floor) ⌝ }
     ensures { λ m. ⌜
         m ≡ cond (ltb failed 4) (motorsWithout failed floor (baseWithout failed t) (deltaWithout failed r p))
         (map (tiltMotor floor t r p) quadRows)

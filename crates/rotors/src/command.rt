@@ -4,10 +4,14 @@ use crate::rows::M1;
 use crate::rows::M2;
 use crate::rows::M3;
 use crate::rows::M4;
+use number::is_moderate;
 use number::pick;
 use number::sanitise;
 ghost use mathlib.Core.Path.{_≡_};
-ghost use Rattle.rules.specs.Rows.{quadRows};
+ghost use mathlib.Core.Bool.{_&&_};
+ghost use Rattle.binary32.specs.Arithmetic.{_+f_, _*f_};
+ghost use Rattle.number.specs.Moderate.{moderate};
+ghost use Rattle.rules.specs.Rows.{rollOf, pitchOf, yawOf, quadRows};
 ghost use Rattle.rules.specs.Command.{lifted, delta, deltas};
 ghost use Rattle.rules.specs.Plain.{rawSum};
 
@@ -25,15 +29,54 @@ pub fn lift(t: f32, floor: f32) -> f32
     pick(t < floor, floor, t)
 }
 
+// What torques ask of the motor of one row, not treated.
+fn asked(row: [f32; 4], r: f32, p: f32, y: f32) -> f32
+    ensures { λ d. ⌜ d ≡ rollOf row *f r +f pitchOf row *f p +f yawOf row *f y ⌝ }
+{
+    row[1] * r + row[2] * p + row[3] * y
+}
+
 // What treated torques ask of the motor of one row. Treated: an overflow asks for nothing.
 pub fn delta(row: [f32; 4], r: f32, p: f32, y: f32) -> f32
     ensures { λ d. ⌜ d ≡ delta r p y row ⌝ }
 {
-    sanitise(row[1] * r + row[2] * p + row[3] * y)
+    sanitise(asked(row, r, p, y))
 }
 
-// What a torque asks of each motor, the thrust left out.
+// Whether three torques are moderate. Those of a flight are; and then they and their sums are finite, so that treating
+// changes none of them.
+fn all_moderate(r: f32, p: f32, y: f32) -> bool
+    ensures { λ m. ⌜ m ≡ moderate r && moderate p && moderate y ⌝ }
+{
+    if is_moderate(r) {
+        if is_moderate(p) {
+            return is_moderate(y);
+        }
+        return false;
+    }
+    false
+}
+
+// What a torque asks of each motor, the thrust left out. That it is moderate is seen first, since it is quick.
 pub fn deltas(torque_body: [f32; 3]) -> [f32; 4]
+    ensures { λ d. ⌜ d ≡ deltas quadRows «torque_body» ⌝ }
+{
+    let r = torque_body[0];
+    let p = torque_body[1];
+    let y = torque_body[2];
+    if all_moderate(r, p, y) {
+        return [
+            asked(M1, r, p, y),
+            asked(M2, r, p, y),
+            asked(M3, r, p, y),
+            asked(M4, r, p, y),
+        ];
+    }
+    treated_deltas(torque_body)
+}
+
+// The same of any torque: each number and each sum is treated.
+fn treated_deltas(torque_body: [f32; 3]) -> [f32; 4]
     ensures { λ d. ⌜ d ≡ deltas quadRows «torque_body» ⌝ }
 {
     let r = sanitise(torque_body[0]);

@@ -1,7 +1,7 @@
 -- What holding a number to a range gives: the limited number lies in 0..1, and the floor clamp in floor..1; it leaves
--- what lies there as it is, gives the floor for what is under it, and keeps the order of finite numbers. A floor is any
--- number in 0..1. Last, what the mixes make of a command first: a delta is finite, and the collective is such a number.
--- Assumes nothing.
+-- what lies there as it is, gives the floor for what is under it, and keeps the order of finite numbers; and the two
+-- ends can be looked at in turn. A floor is any number in 0..1. Last, what the mixes make of a command first: a delta
+-- is finite, and the collective is such a number. Assumes nothing.
 use mathlib.Core.Path.{_≡_, refl, _∙_}
 use mathlib.Core.Bool.{Bool, true, false, cond}
 use lib.Dec.{T}
@@ -35,6 +35,17 @@ module _ {f : Format} {lo hi : Float} (nl : Number f lo) (nh : Number f hi) (h :
   pub clamped-stays : {x : Float} → Number f x → Between lo hi x → clamped x lo hi ≡ x
   unfolding clamped
   clamped-stays nx b = rw (not-over nl nx (b .from), not-over nx nh (b .to))
+
+  -- the two ends can be looked at one after the other, the lower in what the upper left
+  pub clamped-in-turn : {x : Float} → Number f x
+      → cond (lt (cond (lt hi x) hi x) lo) lo (cond (lt hi x) hi x) ≡ clamped x lo hi
+  unfolding clamped
+  clamped-in-turn {x} nx = go (lt hi x) refl
+    where
+      go : (b : Bool) → lt hi x ≡ b
+          → cond (lt (cond b hi x) lo) lo (cond b hi x) ≡ cond (lt x lo) lo (cond b hi x)
+      go true e = rw (not-over nl nh h, not-over nl nx (le-trans nl nh nx h (less-le hi x e)))
+      go false e = refl
 
   -- and the order is kept
   pub clamped-order : {x y : Float} → Number f x → Number f y → le x y ≡ true
@@ -127,6 +138,21 @@ clamp-inside x {lo} fx h =
 clamp-finite : {x : Float} → Finite binary32 x → (lo : Float) → floorClamp x lo ≡ clamped x lo 1f
 unfolding floorClamp
 clamp-finite {x} h lo = rw (is-true (finite x) (h .finite))
+
+-- the code can come to it by its ends in turn
+pub clamp-in-turn : (x : Float) {lo : Float} → T (fits binary32 x) → Floor lo
+    → cond (finite x) (cond (lt (cond (lt 1f x) 1f x) lo) lo (cond (lt 1f x) 1f x)) lo ≡ floorClamp x lo
+unfolding floorClamp
+clamp-in-turn x {lo} h l = go (finite x) refl
+  where
+    in-turn : Float
+    in-turn = cond (lt (cond (lt 1f x) 1f x) lo) lo (cond (lt 1f x) 1f x)
+
+    go : (b : Bool) → finite x ≡ b → cond b in-turn lo ≡ cond b (clamped x lo 1f) lo
+    go true e =
+        clamped-in-turn (inside-number l) one-number (l .between .to)
+        (finite-number (record { fits = h; finite = rw e tt }))
+    go false e = refl
 
 -- so a number that lies there stays as it is
 pub clamp-stays : {x lo : Float} → Floor lo → Inside lo x → floorClamp x lo ≡ x

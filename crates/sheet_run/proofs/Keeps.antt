@@ -11,6 +11,7 @@ use lib.Ieee.Fits.{nan-fits}
 use Rattle.rules.specs.Rows.{quadRows}
 use Rattle.rules.proofs.Keeps.{plain-keeps, thrust-floor-keeps, priority-keeps, airmode-keeps, rotor-out-keeps}
 use Rattle.quad.specs.declared.QuadMixer.{QuadMixer}
+use Rattle.quad.proofs.QuadMixed.{mixed}
 use Rattle.entries.specs.declared.choice.Case.{Case}
 use Rattle.entries.specs.declared.choice.Case.the-variants.{Plain as PlainCase, ThrustFloor as ThrustFloorCase}
 use Rattle.entries.specs.declared.choice.Case.the-variants.{Priority as PriorityCase}
@@ -44,15 +45,15 @@ three-held r p y hr hp hy (suc (suc (suc k))) = nan-fits binary32
 called-gives : (q : QuadMixer) (c : Command) → HeldIn c → Gives q c (called q c)
 unfolding called Gives HeldIn
 called-gives q (Plain t r p y) h =
-    record { is = refl; keeps = plain-keeps (r ∷ p ∷ y ∷ []) t (three-held r p y (h .1) (h .2) (h .3)) (h .0) }
+    mixed refl (plain-keeps (r ∷ p ∷ y ∷ []) t (three-held r p y (h .1) (h .2) (h .3)) (h .0))
 called-gives q (ThrustFloor t r p y floor) h =
-    record { is = refl; keeps = thrust-floor-keeps quadRows (r ∷ p ∷ y ∷ []) t floor (h .0) (h .1) }
+    mixed refl (thrust-floor-keeps quadRows (r ∷ p ∷ y ∷ []) t floor (h .0) (h .1))
 called-gives q (Priority t r p y floor) h =
-    record { is = refl; keeps = priority-keeps quadRows (r ∷ p ∷ y ∷ []) t floor (h .0) (h .1) }
+    mixed refl (priority-keeps quadRows (r ∷ p ∷ y ∷ []) t floor (h .0) (h .1))
 called-gives q (Airmode t r p y floor) h =
-    record { is = refl; keeps = airmode-keeps quadRows (r ∷ p ∷ y ∷ []) t floor (h .0) (h .1) }
+    mixed refl (airmode-keeps quadRows (r ∷ p ∷ y ∷ []) t floor (h .0) (h .1))
 called-gives q (RotorOut failed t r p y floor) h =
-    record { is = refl; keeps = rotor-out-keeps failed (r ∷ p ∷ y ∷ []) t floor h }
+    mixed refl (rotor-out-keeps failed (r ∷ p ∷ y ∷ []) t floor h)
 
 -- ---- a sheet's commands
 

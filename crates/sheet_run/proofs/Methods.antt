@@ -17,18 +17,18 @@ gives-called q (Priority t r p y floor) last m = m .is
 gives-called q (Airmode t r p y floor) last m = m .is
 gives-called q (RotorOut failed t r p y floor) last m = m .is
 
--- a state is reached by calling the methods of commands in their order, and these are the bytes of the states on the
--- way
-pub data Reached : QuadMixer → List Command → QuadMixer → List ℕ → Type 0 where
-  none : {q : QuadMixer} → Reached q [] q []
+-- calling the methods of commands in their order leads from a state to a last one, and these are the bytes of the
+-- states on the way
+pub data InTurn : QuadMixer → List Command → QuadMixer → List ℕ → Type 0 where
+  none : {q : QuadMixer} → InTurn q [] q []
   more : {q r last : QuadMixer} {c : Command} {cs : List Command} {bytes : List ℕ} → Gives q c r
-      → Reached r cs last bytes → Reached q (c ∷ cs) last (answerOf r ++ bytes)
+      → InTurn r cs last bytes → InTurn q (c ∷ cs) last (answerOf r ++ bytes)
 
-pub reached-ran : {q last : QuadMixer} {cs : List Command} {bytes : List ℕ} → Reached q cs last bytes
+pub in-turn-ran : {q last : QuadMixer} {cs : List Command} {bytes : List ℕ} → InTurn q cs last bytes
     → (last ≡ ran q cs) × (bytes ≡ answersOf q cs)
 unfolding ran answersOf
-reached-ran none = (refl, refl)
-reached-ran (more {q} {r} {c} m rest) =
+in-turn-ran none = (refl, refl)
+in-turn-ran (more {q} {r} {c} m rest) =
     let is = gives-called q c r m in
-    let after = reached-ran rest in
+    let after = in-turn-ran rest in
     (rw (← is) (after .0), rw (← is) (ap (λ (b : List ℕ). answerOf r ++ b) (after .1)))

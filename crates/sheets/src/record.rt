@@ -1,4 +1,4 @@
-// A record of the list: 18 words, then the sheet, the output after the run, and the text that `mixrun` prints. A text
+// A record of the list: 24 words, then the sheet, the output after the run, and the text that `mixrun` prints. A text
 // that is not compared has length 0.
 ghost use Prim.Native.Nat.{_≤_, _<_};
 use bits::bits_of;
@@ -23,17 +23,17 @@ const ENTRY: usize = 12;
 
 const BEFORE: usize = 16;
 
-const AFTER: usize = 36;
+const AFTER: usize = 48;
 
-const BODY_ENTRY: usize = 56;
+const BODY_ENTRY: usize = 80;
 
-const BODY_AT: usize = 60;
+const BODY_AT: usize = 84;
 
-const BODY_SIZE: usize = 64;
+const BODY_SIZE: usize = 88;
 
-const PRINTED: usize = 68;
+const PRINTED: usize = 92;
 
-const HEAD: usize = 72;
+const HEAD: usize = 96;
 
 // Room for an output: more than any of the list has.
 const MOST: usize = 2048;
@@ -47,7 +47,7 @@ fn word(record: &[u8], at: usize) -> usize
 
 // How many bytes a record has, by its words.
 pub(crate) fn size_of(record: &[u8]) -> usize
-    ensures { λ r. ⌜ (72 ≤ r) × (r < 17179869184) ⌝ }
+    ensures { λ r. ⌜ (96 ≤ r) × (r < 17179869184) ⌝ }
 {
     HEAD + word(record, SHEET) + word(record, OUTPUT) + word(record, PRINTED)
 }
@@ -114,6 +114,11 @@ fn state_of(record: &[u8]) -> QuadMixer {
             float_of(read_u32(record, BEFORE + 12)),
         ],
         last_torque_scale: float_of(read_u32(record, BEFORE + 16)),
+        last_torque: [
+            float_of(read_u32(record, BEFORE + 20)),
+            float_of(read_u32(record, BEFORE + 24)),
+            float_of(read_u32(record, BEFORE + 28)),
+        ],
     }
 }
 
@@ -129,11 +134,15 @@ fn verdict_agrees(record: &[u8], verdict: Verdict) -> bool {
 // A NaN is written as 7fc00000 in the record and by `bits_of`.
 fn state_agrees(record: &[u8], state: QuadMixer) -> bool {
     let m = state.last_motors;
+    let sums = state.last_torque;
     bits_of(m[0]) == read_u32(record, AFTER)
         && bits_of(m[1]) == read_u32(record, AFTER + 4)
         && bits_of(m[2]) == read_u32(record, AFTER + 8)
         && bits_of(m[3]) == read_u32(record, AFTER + 12)
         && bits_of(state.last_torque_scale) == read_u32(record, AFTER + 16)
+        && bits_of(sums[0]) == read_u32(record, AFTER + 20)
+        && bits_of(sums[1]) == read_u32(record, AFTER + 24)
+        && bits_of(sums[2]) == read_u32(record, AFTER + 28)
 }
 
 // ---- the body, and the text

@@ -40,10 +40,17 @@ pub fn rows(wrong: bool) -> Vec<Row> {
         ),
         compared(
             wrong,
+            "QuadMixer::last_torque",
+            states(),
+            |calls| ours::after(calls).last_torque(),
+            |calls| rust::after(calls).torque(),
+        ),
+        compared(
+            wrong,
             "QuadMixer, Debug",
             states().first(TEXTS),
-            |calls| ours::quad_text(calls),
-            |calls| rust::quad_text(calls),
+            |calls| format!("{:?}", ours::after(calls)),
+            |calls| text_with_torque(&rust::after(calls)),
         ),
         compared(
             wrong,
@@ -91,6 +98,33 @@ fn states() -> Inputs<impl Fn(u64) -> [Call; CALLS]> {
     }
 }
 
+// ---- the torque, which the Rust's state has not
+
+/// The torque of the last motors: ours as it is stored, the Rust's worked out.
+trait Torque {
+    fn torque(&self) -> [f32; 3];
+}
+
+impl Torque for ours_quad::QuadMixer {
+    fn torque(&self) -> [f32; 3] {
+        self.last_torque()
+    }
+}
+
+impl Torque for relay_mix_quad::QuadMixer {
+    fn torque(&self) -> [f32; 3] {
+        relay_mix_quad::motors_to_torque_signs(self.last_motors())
+    }
+}
+
+/// The Rust's text of a state, with the torque as a last field. Fields are private, and such a text
+/// is how their names and values show.
+fn text_with_torque(mixer: &relay_mix_quad::QuadMixer) -> String {
+    let text = format!("{mixer:?}");
+    let fields = text.trim_end_matches(" }");
+    format!("{fields}, last_torque: {:?} }}", mixer.torque())
+}
+
 // ---- both sides
 
 both_sides! {
@@ -119,7 +153,7 @@ both_sides! {
 
     // ---- calls
 
-    rooms::quad_calls!();
+    rooms::quad_calls!(Torque::torque);
 
     /// Fresh states: made when the program runs, and by the compiler.
     pub fn fresh() -> [State; 2] {
@@ -144,11 +178,6 @@ both_sides! {
     pub fn torque_sums(&motors: &[f32; 4]) -> [f32; 3] {
         motors_to_torque_signs(motors)
     }
-
-    /// Fields are private, and this is how their names and values show.
-    pub fn quad_text(calls: &[Call]) -> String {
-        format!("{:?}", after(calls))
-    }
 }
 
 // ---- wrong on purpose
@@ -169,6 +198,27 @@ fn slips() -> Vec<Row> {
             states(),
             |calls| ours::after(&calls[..CALLS - 1]).last_motors(),
             |calls| rust::after(calls).last_motors(),
+        ),
+        compared(
+            WHOLE,
+            "torque of the call before",
+            states(),
+            |calls| ours::after(&calls[..CALLS - 1]).last_torque(),
+            |calls| rust::after(calls).torque(),
+        ),
+        compared(
+            WHOLE,
+            "torque of a fresh state",
+            states(),
+            |_| ours::after(&[]).last_torque(),
+            |calls| rust::after(calls).torque(),
+        ),
+        compared(
+            WHOLE,
+            "torque that was asked for",
+            states(),
+            |calls| calls[CALLS - 1].torque,
+            |calls| rust::after(calls).torque(),
         ),
     ]
 }

@@ -6,7 +6,7 @@ use ours_quad::QuadMixer;
 
 use comparing::inputs::Inputs;
 use comparing::row::Row;
-use rooms::quad::call::{State, FRESH};
+use rooms::quad::call::{self, sums, State, FRESH};
 use rooms::sheet::case::Case;
 use rooms::sheet::chosen::chosen_sheets;
 use rooms::sheet::groups::GROUPS;
@@ -16,11 +16,14 @@ use rooms::sheet::side::{Place, Side};
 
 use crate::quad::ours;
 
-/// Ours. Where it is to be wrong, an accepted sheet's output has a bit turned, and a refusal comes
-/// with the next entry.
+/// Ours, and how it is to be wrong.
 #[derive(Clone, Copy)]
-struct Ours {
-    wrong: bool,
+enum Ours {
+    Right,
+    /// An accepted sheet's output has a bit turned, and a refusal comes with the next entry.
+    Turned,
+    /// The state keeps the torque that it began with.
+    TorqueKept,
 }
 
 /// The number and the entry, 0 and 0 for an accepted sheet.
@@ -39,16 +42,20 @@ impl Side for Ours {
     fn run(self, bytes: &[u8], _: &State, out: &mut [u8]) -> Ran {
         let mut mixer = QuadMixer::new();
         let (number, mut entry) = told(sheet::run(bytes, &mut mixer, out));
-        if self.wrong {
-            match out.first_mut() {
-                Some(byte) if number == 0 => *byte ^= 1,
-                _ => entry += 1,
+        let mut state = ours::state(&mixer);
+        match (self, out.first_mut()) {
+            (Ours::Right, _) => {}
+            (Ours::Turned, Some(byte)) if number == 0 => *byte ^= 1,
+            (Ours::Turned, _) => entry += 1,
+            (Ours::TorqueKept, _) => {
+                let [a, b, c, d, scale, ..] = state;
+                state = call::state([a, b, c, d], scale, sums(&FRESH));
             }
         }
         Ran {
             number,
             entry,
-            state: ours::state(&mixer),
+            state,
         }
     }
 
@@ -83,19 +90,21 @@ fn from_fresh(inputs: Inputs<impl Fn(u64) -> Case>, cases: u64) -> Inputs<impl F
 }
 
 pub fn rows(wrong: bool) -> Vec<Row> {
-    let (ours, given) = (Ours { wrong }, Given::default());
-    let chosen = chosen_sheets();
-    let all = chosen.cases;
-    let mut rows = vec![sheet_row(
-        "sheets, chosen",
-        from_fresh(chosen, all),
-        ours,
-        &given,
-    )];
+    let ours = if wrong { Ours::Turned } else { Ours::Right };
+    let given = Given::default();
+    let chosen = |name, ours| {
+        let inputs = chosen_sheets();
+        let all = inputs.cases;
+        sheet_row(name, from_fresh(inputs, all), ours, &given)
+    };
+    let mut rows = vec![chosen("sheets, chosen", ours)];
     rows.extend(GROUPS.iter().map(|group| {
         let inputs = group.inputs();
         let some = inputs.cases / PART;
         sheet_row(group.name, from_fresh(inputs, some), ours, &given)
     }));
+    if wrong {
+        rows.push(chosen("torque kept by a sheet's run", Ours::TorqueKept));
+    }
     rows
 }

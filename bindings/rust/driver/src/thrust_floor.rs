@@ -110,7 +110,7 @@ fn ours<const M: usize>((call, thrusts): &Quad<M>) -> Answered<M> {
 /// The Rust's quad. Rotors that have the same row have the same motor, and put the same limit on
 /// the scale.
 fn quads_own<const M: usize>((call, _): &Quad<M>) -> Answered<M> {
-    let [a, b, c, d, scale] = state(&after(&[*call]));
+    let [a, b, c, d, scale, ..] = state(&after(&[*call]));
     (std::array::from_fn(|i| [a, b, c, d][i % 4]), scale)
 }
 

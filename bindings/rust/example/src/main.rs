@@ -74,6 +74,7 @@ fn fly() -> QuadMixer {
         show(step.what, &[m1, m2, m3, m4, mixer.last_torque_scale()]);
     }
     show("torque sums", &motors_to_torque_signs(mixer.last_motors()));
+    show("stored in the state", &mixer.last_torque());
     mixer
 }
 
@@ -158,6 +159,7 @@ fn run_sheet(mut state: QuadMixer) {
         Err(refused) => println!("kind 5: {refused}"),
     }
     show("the state stays", &state.last_motors());
+    show("so does its torque", &state.last_torque());
 }
 
 fn main() {

@@ -12,33 +12,35 @@ use crate::{QuadMixer, MAX_ROTORS};
 
 type Rows = [[f32; 4]; MAX_ROTORS];
 
-// A state is five floats, and eight rows are 32: they touch, so the layouts are the same.
-const _: () = assert!(core::mem::size_of::<QuadMixer>() == 20);
+// A state is eight floats, and eight rows are 32: they touch, so the layouts are the same. The names of
+// the functions over a state have its size in bytes.
+const _: () = assert!(core::mem::size_of::<QuadMixer>() == 32);
 const _: () = assert!(core::mem::size_of::<Rows>() == 4 * 32);
 
 extern "C" {
-    fn footspandle_quad_last_motors(state: *const QuadMixer, motors: *mut [f32; 4]);
-    fn footspandle_quad_last_torque_scale(state: *const QuadMixer) -> f32;
-    fn footspandle_quad_mix(state: *mut QuadMixer, torque_body: *const [f32; 3], thrust: f32);
-    fn footspandle_quad_mix_thrust_floor(
+    fn footspandle_quad32_last_motors(state: *const QuadMixer, motors: *mut [f32; 4]);
+    fn footspandle_quad32_last_torque_scale(state: *const QuadMixer) -> f32;
+    fn footspandle_quad32_last_torque(state: *const QuadMixer, sums: *mut [f32; 3]);
+    fn footspandle_quad32_mix(state: *mut QuadMixer, torque_body: *const [f32; 3], thrust: f32);
+    fn footspandle_quad32_mix_thrust_floor(
         state: *mut QuadMixer,
         torque_body: *const [f32; 3],
         thrust: f32,
         floor: f32,
     );
-    fn footspandle_quad_mix_priority(
+    fn footspandle_quad32_mix_priority(
         state: *mut QuadMixer,
         torque_body: *const [f32; 3],
         thrust: f32,
         floor: f32,
     );
-    fn footspandle_quad_mix_airmode(
+    fn footspandle_quad32_mix_airmode(
         state: *mut QuadMixer,
         torque_body: *const [f32; 3],
         thrust: f32,
         idle: f32,
     );
-    fn footspandle_quad_mix_rotor_out(
+    fn footspandle_quad32_mix_rotor_out(
         state: *mut QuadMixer,
         failed: usize,
         torque_body: *const [f32; 3],
@@ -72,7 +74,7 @@ extern "C" {
         i: usize,
         at: *mut usize,
     ) -> usize;
-    fn footspandle_sheet_run(
+    fn footspandle_sheet_run_quad32(
         sheet: *const u8,
         sheet_length: usize,
         state: *mut QuadMixer,
@@ -87,18 +89,25 @@ extern "C" {
 pub fn quad_last_motors(state: &QuadMixer) -> [f32; 4] {
     let mut motors = [0.0; 4];
     // SAFETY: both point to whole values, and `motors` is a local that nothing else refers to.
-    unsafe { footspandle_quad_last_motors(state, &mut motors) };
+    unsafe { footspandle_quad32_last_motors(state, &mut motors) };
     motors
 }
 
 pub fn quad_last_torque_scale(state: &QuadMixer) -> f32 {
     // SAFETY: `state` points to a whole value, which is only read.
-    unsafe { footspandle_quad_last_torque_scale(state) }
+    unsafe { footspandle_quad32_last_torque_scale(state) }
+}
+
+pub fn quad_last_torque(state: &QuadMixer) -> [f32; 3] {
+    let mut sums = [0.0; 3];
+    // SAFETY: both point to whole values, and `sums` is a local that nothing else refers to.
+    unsafe { footspandle_quad32_last_torque(state, &mut sums) };
+    sums
 }
 
 pub fn quad_mix(state: &mut QuadMixer, torque_body: &[f32; 3], thrust: f32) {
     // SAFETY: both point to whole values; `state` is exclusive, so the torque is not in it.
-    unsafe { footspandle_quad_mix(state, torque_body, thrust) }
+    unsafe { footspandle_quad32_mix(state, torque_body, thrust) }
 }
 
 pub fn quad_mix_thrust_floor(
@@ -108,17 +117,17 @@ pub fn quad_mix_thrust_floor(
     floor: f32,
 ) {
     // SAFETY: as for `quad_mix`.
-    unsafe { footspandle_quad_mix_thrust_floor(state, torque_body, thrust, floor) }
+    unsafe { footspandle_quad32_mix_thrust_floor(state, torque_body, thrust, floor) }
 }
 
 pub fn quad_mix_priority(state: &mut QuadMixer, torque_body: &[f32; 3], thrust: f32, floor: f32) {
     // SAFETY: as for `quad_mix`.
-    unsafe { footspandle_quad_mix_priority(state, torque_body, thrust, floor) }
+    unsafe { footspandle_quad32_mix_priority(state, torque_body, thrust, floor) }
 }
 
 pub fn quad_mix_airmode(state: &mut QuadMixer, torque_body: &[f32; 3], thrust: f32, idle: f32) {
     // SAFETY: as for `quad_mix`.
-    unsafe { footspandle_quad_mix_airmode(state, torque_body, thrust, idle) }
+    unsafe { footspandle_quad32_mix_airmode(state, torque_body, thrust, idle) }
 }
 
 pub fn quad_mix_rotor_out(
@@ -129,7 +138,7 @@ pub fn quad_mix_rotor_out(
     floor: f32,
 ) {
     // SAFETY: as for `quad_mix`; every rotor number is taken.
-    unsafe { footspandle_quad_mix_rotor_out(state, failed, torque_body, thrust, floor) }
+    unsafe { footspandle_quad32_mix_rotor_out(state, failed, torque_body, thrust, floor) }
 }
 
 pub fn motors_to_torque_signs(motors: &[f32; 4]) -> [f32; 3] {
@@ -194,7 +203,7 @@ pub fn sheet_run(sheet: &[u8], state: &mut QuadMixer, out: &mut [u8]) -> (u32, u
     // SAFETY: sheet and output pass with their own lengths; state and output are exclusive, so they
     // are in no other of these, and `entry` is a local.
     let number = unsafe {
-        footspandle_sheet_run(
+        footspandle_sheet_run_quad32(
             sheet.as_ptr(),
             sheet.len(),
             state,
@@ -216,13 +225,13 @@ mod held_to {
     use super::*;
 
     extern "C" {
-        fn footspandle_quad_new(state: *mut QuadMixer);
+        fn footspandle_quad32_new(state: *mut QuadMixer);
         fn footspandle_mixer_n_new(rows: *const Rows, n: usize, mix: *mut Rows) -> usize;
     }
 
     pub fn quad_new(state: &mut QuadMixer) {
         // SAFETY: `state` points to a whole value, and is exclusive.
-        unsafe { footspandle_quad_new(state) }
+        unsafe { footspandle_quad32_new(state) }
     }
 
     /// The rows, and the count.

@@ -3,7 +3,9 @@
 //!
 //! Follows relay-mix-quad (Apache-2.0, see NOTICE); changed: each function calls the exported function
 //! of its name, but for the two `const fn new`; `from_geometry`, `hexa_x` and `QuadMixer`'s `Default`
-//! are left out; the module [`sheet`] is added.
+//! are left out; the module [`sheet`] is added, and so is [`QuadMixer::last_torque`]: the Rust's
+//! `QuadMixer` has no such method. The state has three numbers more for it, so that it is 32 bytes where
+//! the Rust's is 20, and `Debug` shows them.
 //!
 //! An autopilot that uses relay-mix-quad, and none of the three that are left out, changes the path in
 //! its manifest, and no line of its code; the archive has to be built before it (README, 'Call it from
@@ -18,23 +20,25 @@
 mod exported;
 pub mod sheet;
 
-/// The quad's state: the motors of the last mix, and the recorded torque scale. It is laid out as C
-/// lays it out, so that it can be lent as it stands.
+/// The quad's state: the motors of the last mix, the recorded torque scale, and the torque that the
+/// last motors give. It is laid out as C lays it out, so that it can be lent as it stands.
 #[derive(Clone, Copy, Debug)]
 #[repr(C)]
 pub struct QuadMixer {
     last_motors: [f32; 4],
     last_torque_scale: f32,
+    last_torque: [f32; 3],
 }
 
 impl QuadMixer {
-    /// A fresh state: four motors of +0, and the scale 1.
+    /// A fresh state: four motors of +0, the scale 1, and a torque of three +0.
     // No `Default`: the Rust's derived one has the scale 0, and another of that name would mislead.
     #[allow(clippy::new_without_default)]
     pub const fn new() -> Self {
         Self {
             last_motors: [0.0; 4],
             last_torque_scale: 1.0,
+            last_torque: [0.0; 3],
         }
     }
 
@@ -47,6 +51,13 @@ impl QuadMixer {
     /// rotor-out records 1, and the other mixes leave what is there.
     pub fn last_torque_scale(&self) -> f32 {
         exported::quad_last_torque_scale(self)
+    }
+
+    /// The torque that the last motors give, as it is stored: the roll, pitch and yaw sums that
+    /// [`motors_to_torque_signs`] gives of [`QuadMixer::last_motors`], by bits, without working them
+    /// out. In a fresh state three +0.
+    pub fn last_torque(&self) -> [f32; 3] {
+        exported::quad_last_torque(self)
     }
 
     /// Plain: keeps the torque as far as no motor would go under 0, and gives up thrust. Every motor
@@ -163,6 +174,7 @@ mod tests {
         let mut state = QuadMixer {
             last_motors: [LENT; 4],
             last_torque_scale: LENT,
+            last_torque: [LENT; 3],
         };
         exported::quad_new(&mut state);
         for ours in [QuadMixer::new(), FRESH] {
@@ -171,6 +183,7 @@ mod tests {
                 ours.last_torque_scale.to_bits(),
                 state.last_torque_scale.to_bits()
             );
+            assert!(bits(&ours.last_torque).eq(bits(&state.last_torque)));
         }
     }
 

@@ -63,8 +63,9 @@ pub fn body(sheet: &[u8], i: usize) -> &[u8] {
 }
 
 /// Runs a sheet from a state. The answer of entry i stands at `out[20 * i..20 * i + 20]`; the bytes
-/// past the last answer stay. A refused sheet, and an output of under 20 bytes for each entry (number
-/// 9), leaves state and output as they were.
+/// past the last answer stay. The state's torque is then that of the last call's motors, and stands in
+/// no answer. A refused sheet, and an output of under 20 bytes for each entry (number 9), leaves state
+/// and output as they were.
 pub fn run(sheet: &[u8], state: &mut QuadMixer, out: &mut [u8]) -> Result<(), Refused> {
     told(exported::sheet_run(sheet, state, out))
 }

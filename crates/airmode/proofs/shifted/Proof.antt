@@ -22,10 +22,10 @@ returns c =
     let m = args .t2 in
     let length : length m ≡ 4 = omega arith in
     simp (
-      c .clamp-floor4 .ensures,
-      c .before .clamp-floor3 .ensures,
-      c .before .before .clamp-floor2 .ensures,
-      c .before .before .before .clamp-floor .ensures,
+      c .hold4 .ensures,
+      c .before .hold3 .ensures,
+      c .before .before .hold2 .ensures,
+      c .before .before .before .hold .ensures,
       at-shift .shift .ensures,
       at-shift .before .largest .ensures,
       at-shift .before .before .before .least .ensures,

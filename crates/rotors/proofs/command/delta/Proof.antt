@@ -6,14 +6,7 @@ use Rattle.rotors.proofs.command.delta.Tie as tie
 
 returns : tie.Need-returns
 unfolding delta
-returns c = simp (c .sanitise .ensures)
+returns c = simp (c .sanitise .ensures, c .before .asked .ensures)
 
 pub delta-spec : {M : Type 1} → statement M
-delta-spec =
-    tie.close
-    (tie.spec
-    (λ c. search needs)
-    (λ c. search needs)
-    (λ c. search needs)
-    (λ c κs. search needs)
-    returns)
+delta-spec = tie.close (tie.spec (λ c κs. search needs) (λ c κs. search needs) returns)

@@ -1,35 +1,41 @@
--- `rotors::command::deltas` meets its contract: the four deltas are those of the quad's rows. Assumes nothing.
+-- `rotors::command::deltas` meets its contract: treating changes nothing of moderate torques (`moderate-deltas`), and
+-- the others are treated. Assumes nothing.
+use mathlib.Core.Path.{sym, _∙_}
 use borrow.Author.Needs.{needs}
+use Rattle.general.proofs.Held.{array-held}
 use Rattle.rules.specs.Rows.{quadRows}
-use Rattle.rules.specs.Command.{deltas}
+use Rattle.rules.proofs.Moderate.{moderate-deltas}
 use Rattle.rotors.proofs.command.deltas.Statement.{statement}
 use Rattle.rotors.proofs.command.deltas.Tie as tie
 
 returns : tie.Need-returns
-unfolding quadRows deltas
+unfolding quadRows
 returns c =
+    let test = c .before .before .before .before in
+    let start = test .before .before in
+    let torque = start .args .t1 in
+    let held = array-held 3 torque _ (start .good .0) in
     simp (
-      c .delta4 .ensures,
-      c .before .delta3 .ensures,
-      c .before .before .delta2 .ensures,
-      c .before .before .before .delta .ensures,
-      c .before .before .before .before .sanitise3 .ensures,
-      c .before .before .before .before .before .sanitise2 .ensures,
-      c .before .before .before .before .before .before .sanitise .ensures,
+      c .asked4 .ensures,
+      c .before .asked3 .ensures,
+      c .before .before .asked2 .ensures,
+      c .before .before .before .asked .ensures,
     )
+    (moderate-deltas torque (held 0) (held 1) (held 2)
+    (rw (sym (test .before .all-moderate .ensures) ∙ test .if1 .taken) tt))
 
 pub deltas-spec : {M : Type 1} → statement M
 deltas-spec =
     tie.close
     (tie.spec
     (λ c. search needs)
-    (λ c κs. search needs)
+    (λ c. search needs)
     (λ c. search needs)
     (λ c κs. search needs)
-    (λ c. search needs)
     (λ c κs. search needs)
     (λ c κs. search needs)
     (λ c κs. search needs)
     (λ c κs. search needs)
+    returns
     (λ c κs. search needs)
-    returns)
+    (λ c. search needs))

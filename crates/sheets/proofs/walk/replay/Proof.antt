@@ -1,4 +1,4 @@
--- `sheets::walk::replay` is safe and ends. The loop's invariant: a record has 72 bytes or more, so there are at most as
+-- `sheets::walk::replay` is safe and ends. The loop's invariant: a record has 96 bytes or more, so there are at most as
 -- many records as bytes passed, and at most as many differences as records. The measure is what is left of the list.
 -- Assumes nothing.
 use Prim.Native.Nat.{_≤_, _-_, _+_}

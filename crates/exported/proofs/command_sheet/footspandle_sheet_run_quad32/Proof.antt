@@ -1,6 +1,6 @@
--- `exported::command_sheet::footspandle_sheet_run` meets its contract: a walk of its code, by hand. The state is read
--- out of its place, and the run by value says what the output and the entry number end at. Where its number is not 0
--- the borrow of the state is shut at the state that was lent, which then is the one that the run gives
+-- `exported::command_sheet::footspandle_sheet_run_quad32` meets its contract: a walk of its code, by hand. The state is
+-- read out of its place, and the run by value says what the output and the entry number end at. Where its number is not
+-- 0 the borrow of the state is shut at the state that was lent, which then is the one that the run gives
 -- (`run-unwritten`); else the state that it gives is put there. Assumes nothing.
 use mathlib.Core.Path.{_≡_, refl, subst, ap}
 use mathlib.Core.Bool.{not}
@@ -62,10 +62,10 @@ use Rattle.exported.proofs.command_sheet.RunResult.Laws as O′
 use Rattle.exported.proofs.command_sheet.run_from as g
 use Rattle.exported.proofs.command_sheet.run_from.Symbol as g-def
 use Rattle.exported.proofs.command_sheet.run_from.Met as g-thm
-use Rattle.exported.proofs.command_sheet.footspandle_sheet_run.Key as f-key
-use Rattle.exported.proofs.command_sheet.footspandle_sheet_run as f
-use Rattle.exported.proofs.command_sheet.footspandle_sheet_run.Statement as stated
-use Rattle.exported.proofs.command_sheet.footspandle_sheet_run.Code as code
+use Rattle.exported.proofs.command_sheet.footspandle_sheet_run_quad32.Key as f-key
+use Rattle.exported.proofs.command_sheet.footspandle_sheet_run_quad32 as f
+use Rattle.exported.proofs.command_sheet.footspandle_sheet_run_quad32.Statement as stated
+use Rattle.exported.proofs.command_sheet.footspandle_sheet_run_quad32.Code as code
 
 -- at exit: nothing is had of the sheet, the state's place is still owned, and the output and the place of the entry
 -- number have been given to the run by value
@@ -342,9 +342,9 @@ run-meets 𝓤 H A W at-mem run 𝓣 known =
     (WpFn 𝓤 H (𝓣 .C) (𝓣 .Λ) code.function) (WpFn-mono 𝓤 H (W .laws) 𝓣 code.function)
     (run-walks 𝓤 H A W at-mem run (𝓣 .C) (𝓣 .Λ) (fmOf 𝓤 H (W .laws) 𝓣) known)
 
-pub footspandle-sheet-run-spec : {M : Type 1} → stated.statement M
+pub footspandle-sheet-run-quad32-spec : {M : Type 1} → stated.statement M
 unfolding code.routine tablesOf
-footspandle-sheet-run-spec 𝓤 H 𝓜 𝓖 𝓡 =
+footspandle-sheet-run-quad32-spec 𝓤 H 𝓜 𝓖 𝓡 =
     entered 𝓤 H (tripleOf 𝓤 H (𝓖 .A) f.signature (f.spec 𝓤 H (𝓖 .A) (𝓜 .mem) (𝓡 .run))) (tables 𝓤 H 𝓜 𝓡 code.env .C)
     (tables 𝓤 H 𝓜 𝓡 code.env .Λ) f-key.name code.function (code.unfolded 𝓤 H 𝓜 𝓡)
     (run-meets 𝓤 H (𝓖 .A) (givenOf 𝓤 H 𝓜 𝓖) (𝓜 .mem) (𝓡 .run) (tablesOf 𝓤 H 𝓜 (tables 𝓤 H 𝓜 𝓡 code.env))

@@ -1,0 +1,10 @@
+-- `state` meets its contract: the motors and the scale as they are, and the sums of the motors. Assumes nothing.
+use borrow.Author.Needs.{needs}
+use Rattle.quad.proofs.state.Statement.{statement}
+use Rattle.quad.proofs.state.Tie as tie
+
+returns : tie.Need-returns
+returns c = simp (c .torque-of .ensures)
+
+pub state-spec : {M : Type 1} → statement M
+state-spec = tie.close (tie.spec (λ c κs. search needs) returns)

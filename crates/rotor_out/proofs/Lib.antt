@@ -1,0 +1,2 @@
+-- `Lost`: the lost rotor ends at +0.
+mod Lost

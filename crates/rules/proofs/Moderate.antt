@@ -1,0 +1,74 @@
+-- Treating changes nothing of moderate torques: they are finite, and so is what they ask of each of the quad's rotors.
+-- Assumes nothing.
+use mathlib.Core.Path.{_≡_, refl, sym, subst}
+use mathlib.Core.Bool.{_&&_}
+use mathlib.Core.List.{List, map}
+use lib.Dec.{T}
+use lib.ListN.{getD}
+use lib.Ieee.{Float, nan, binary32, fits, neg, ofBits}
+use lib.Ieee.Fits.{and-l, and-r}
+use Rattle.binary32.specs.Arithmetic.{_+f_, _*f_, 1f}
+use Rattle.binary32.proofs.Products.{unit, one-is-unit}
+use Rattle.binary32.proofs.Sizes.{Within, one-within, minus-one-within}
+use Rattle.number.specs.Moderate.{moderate}
+use Rattle.number.specs.Treat.{treated}
+use Rattle.number.proofs.Moderate.{moderate-within, three-finite}
+use Rattle.rules.specs.Rows.{Row, rollOf, pitchOf, yawOf, -1f, quadRows}
+use Rattle.rules.specs.Command.{delta, deltas}
+use Rattle.rules.proofs.Clamp.{treated-stays}
+
+-- no larger than a moderate number can be
+abbrev Small : Float → Type 0
+Small = Within binary32 274
+
+-- ---- a factor of 1 or -1 leaves them so
+
+abbrev Turns : Float → Type 0
+Turns s = (x : Float) → Small x → Small (s *f x)
+
+one-turns : Turns 1f
+one-turns x h = subst (λ (s : Float). Small (s *f x)) (sym one-is-unit) (one-within h)
+
+minus-one : -1f ≡ neg unit
+unfolding ofBits neg
+minus-one = refl
+
+minus-one-turns : Turns -1f
+minus-one-turns x h = subst (λ (s : Float). Small (s *f x)) (sym minus-one) (minus-one-within h)
+
+-- ---- what they ask of each rotor
+
+abbrev asked : Float → Float → Float → Row → Float
+asked r p y row = rollOf row *f r +f pitchOf row *f p +f yawOf row *f y
+
+module _ {r p y : Float} (hr : Small r) (hp : Small p) (hy : Small y) where
+  sum-stays : (a b c : Float) → Turns a → Turns b → Turns c
+      → treated (a *f r +f b *f p +f c *f y) ≡ a *f r +f b *f p +f c *f y
+  sum-stays a b c ta tb tc = treated-stays (three-finite (ta r hr) (tb p hp) (tc y hy))
+
+  each-stays : map (delta r p y) quadRows ≡ map (asked r p y) quadRows
+  unfolding delta quadRows
+  each-stays =
+      rw (
+        sum-stays -1f 1f -1f minus-one-turns one-turns minus-one-turns,
+        sum-stays -1f -1f 1f minus-one-turns minus-one-turns one-turns,
+        sum-stays 1f -1f -1f one-turns minus-one-turns minus-one-turns,
+        sum-stays 1f 1f 1f one-turns one-turns one-turns,
+      )
+
+-- ---- the deltas
+
+pub moderate-deltas : (torque : List Float)
+    → T (fits binary32 (getD torque 0 nan)) → T (fits binary32 (getD torque 1 nan))
+    → T (fits binary32 (getD torque 2 nan))
+    → T (moderate (getD torque 0 nan) && moderate (getD torque 1 nan) && moderate (getD torque 2 nan))
+    → map (asked (getD torque 0 nan) (getD torque 1 nan) (getD torque 2 nan)) quadRows ≡ deltas quadRows torque
+unfolding deltas
+moderate-deltas torque fr fp fy h =
+    let roll = moderate (getD torque 0 nan) in
+    let pitch = moderate (getD torque 1 nan) in
+    let first-two = and-l (roll && pitch) (moderate (getD torque 2 nan)) h in
+    let r = moderate-within (getD torque 0 nan) fr (and-l roll pitch first-two) in
+    let p = moderate-within (getD torque 1 nan) fp (and-r roll pitch first-two) in
+    let y = moderate-within (getD torque 2 nan) fy (and-r (roll && pitch) (moderate (getD torque 2 nan)) h) in
+    rw (treated-stays (r .finite), treated-stays (p .finite), treated-stays (y .finite)) (sym (each-stays r p y))
