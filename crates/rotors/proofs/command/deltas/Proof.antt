@@ -1,6 +1,7 @@
 -- `rotors::command::deltas` meets its contract: treating changes nothing of moderate torques (`moderate-deltas`), and
 -- the others are treated. Assumes nothing.
-use mathlib.Core.Path.{sym, _∙_}
+use mathlib.Core.Path.{sym, _∙_, subst}
+use lib.Dec.{T}
 use borrow.Author.Needs.{needs}
 use Rattle.general.proofs.Held.{array-held}
 use Rattle.rules.specs.Rows.{quadRows}
@@ -22,7 +23,7 @@ returns c =
       c .before .before .before .asked .ensures,
     )
     (moderate-deltas torque (held 0) (held 1) (held 2)
-    (rw (sym (test .before .all-moderate .ensures) ∙ test .if1 .taken) tt))
+    (subst T (sym (test .if1 .taken) ∙ test .before .all-moderate .ensures) tt))
 
 pub deltas-spec : {M : Type 1} → statement M
 deltas-spec =
