@@ -43,8 +43,8 @@ pub fn delta(row: [f32; 4], r: f32, p: f32, y: f32) -> f32
     sanitise(asked(row, r, p, y))
 }
 
-// Whether three torques are moderate. Those of a flight are; and then they and their sums are finite, so that treating
-// changes none of them.
+// Whether three torques are moderate. Those of a flight are; and then their sums are finite, so that treating changes
+// none of them.
 fn all_moderate(r: f32, p: f32, y: f32) -> bool
     ensures { λ m. ⌜ m ≡ moderate r && moderate p && moderate y ⌝ }
 {
@@ -57,13 +57,14 @@ fn all_moderate(r: f32, p: f32, y: f32) -> bool
     false
 }
 
-// What a torque asks of each motor, the thrust left out. That it is moderate is seen first, since it is quick.
+// What a torque asks of each motor, the thrust left out. That it is moderate is seen first, since it is quick; the
+// torques are treated before anything is asked of them, so that no sum of a NaN is begun.
 pub fn deltas(torque_body: [f32; 3]) -> [f32; 4]
     ensures { λ d. ⌜ d ≡ deltas quadRows «torque_body» ⌝ }
 {
-    let r = torque_body[0];
-    let p = torque_body[1];
-    let y = torque_body[2];
+    let r = sanitise(torque_body[0]);
+    let p = sanitise(torque_body[1]);
+    let y = sanitise(torque_body[2]);
     if all_moderate(r, p, y) {
         return [
             asked(M1, r, p, y),
@@ -72,16 +73,6 @@ pub fn deltas(torque_body: [f32; 3]) -> [f32; 4]
             asked(M4, r, p, y),
         ];
     }
-    treated_deltas(torque_body)
-}
-
-// The same of any torque: each number and each sum is treated.
-fn treated_deltas(torque_body: [f32; 3]) -> [f32; 4]
-    ensures { λ d. ⌜ d ≡ deltas quadRows «torque_body» ⌝ }
-{
-    let r = sanitise(torque_body[0]);
-    let p = sanitise(torque_body[1]);
-    let y = sanitise(torque_body[2]);
     [
         delta(M1, r, p, y),
         delta(M2, r, p, y),

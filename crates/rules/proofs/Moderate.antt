@@ -1,11 +1,9 @@
--- Treating changes nothing of moderate torques: they are finite, and so is what they ask of each of the quad's rotors.
--- Assumes nothing.
+-- Treating changes nothing of what moderate torques ask of each of the quad's rotors: it is finite. Assumes nothing.
 use mathlib.Core.Path.{_≡_, refl, sym, subst}
 use mathlib.Core.Bool.{_&&_}
 use mathlib.Core.List.{List, map}
 use lib.Dec.{T}
-use lib.ListN.{getD}
-use lib.Ieee.{Float, nan, binary32, fits, neg, ofBits}
+use lib.Ieee.{Float, binary32, fits, neg, ofBits}
 use lib.Ieee.Fits.{and-l, and-r}
 use Rattle.binary32.specs.Arithmetic.{_+f_, _*f_, 1f}
 use Rattle.binary32.proofs.Products.{unit, one-is-unit}
@@ -14,7 +12,7 @@ use Rattle.number.specs.Moderate.{moderate}
 use Rattle.number.specs.Treat.{treated}
 use Rattle.number.proofs.Moderate.{moderate-within, three-finite}
 use Rattle.rules.specs.Rows.{Row, rollOf, pitchOf, yawOf, -1f, quadRows}
-use Rattle.rules.specs.Command.{delta, deltas}
+use Rattle.rules.specs.Command.{roll, pitch, yaw, delta, deltas}
 use Rattle.rules.proofs.Clamp.{treated-stays}
 
 -- no larger than a moderate number can be
@@ -59,16 +57,16 @@ module _ {r p y : Float} (hr : Small r) (hp : Small p) (hy : Small y) where
 -- ---- the deltas
 
 pub moderate-deltas : (torque : List Float)
-    → T (fits binary32 (getD torque 0 nan)) → T (fits binary32 (getD torque 1 nan))
-    → T (fits binary32 (getD torque 2 nan))
-    → T (moderate (getD torque 0 nan) && moderate (getD torque 1 nan) && moderate (getD torque 2 nan))
-    → map (asked (getD torque 0 nan) (getD torque 1 nan) (getD torque 2 nan)) quadRows ≡ deltas quadRows torque
+    → T (fits binary32 (roll torque)) → T (fits binary32 (pitch torque)) → T (fits binary32 (yaw torque))
+    → T (moderate (roll torque) && moderate (pitch torque) && moderate (yaw torque))
+    → map (asked (roll torque) (pitch torque) (yaw torque)) quadRows ≡ deltas quadRows torque
 unfolding deltas
 moderate-deltas torque fr fp fy h =
-    let roll = moderate (getD torque 0 nan) in
-    let pitch = moderate (getD torque 1 nan) in
-    let first-two = and-l (roll && pitch) (moderate (getD torque 2 nan)) h in
-    let r = moderate-within (getD torque 0 nan) fr (and-l roll pitch first-two) in
-    let p = moderate-within (getD torque 1 nan) fp (and-r roll pitch first-two) in
-    let y = moderate-within (getD torque 2 nan) fy (and-r (roll && pitch) (moderate (getD torque 2 nan)) h) in
-    rw (treated-stays (r .finite), treated-stays (p .finite), treated-stays (y .finite)) (sym (each-stays r p y))
+    let mr = moderate (roll torque) in
+    let mp = moderate (pitch torque) in
+    let my = moderate (yaw torque) in
+    let first-two = and-l (mr && mp) my h in
+    let r = moderate-within (roll torque) fr (and-l mr mp first-two) in
+    let p = moderate-within (pitch torque) fp (and-r mr mp first-two) in
+    let y = moderate-within (yaw torque) fy (and-r (mr && mp) my h) in
+    sym (each-stays r p y)
