@@ -1,7 +1,7 @@
 -- The kit's `add`, `sub`, `mul` and `div` meet every row of specs/Operations.antt: what IEEE 754-2019 asks of the four
 -- operations, of every two operands that the format holds. In either format. Assumes nothing.
 use mathlib.Core.Path.{◌≡◌, refl, ◌∙◌}
-use mathlib.Core.Bool.{Bool, true, false, ◌&&◌, ◌||◌, cond}
+use mathlib.Core.Bool.{Bool, true, false, not, ◌&&◌, ◌||◌, cond}
 use Prim.Native.Nat.{ℕ, ◌+◌, ◌-◌, ◌*◌, ◌<◌}
 use native.Mathlib.Nat.{lt_irrefl}
 use native.Mathlib.Omega.{arith}
@@ -90,8 +90,8 @@ module _ {f : Format} {x y : Float} (hx : T (fits f x)) (hy : T (fits f y)) wher
         (balanced (sum_of (whole_difference f x) (whole_difference f y)) e);
     infinite_first = λ s e q. rw e (by_finite (λ y. add f (inf s) y ≡ inf s) (λ t n d h. refl) (is_finite hy q));
     infinite_second = λ s p e. rw e (by_finite (λ x. add f x (inf s) ≡ inf s) (λ t m d h. refl) (is_finite hx p));
-    infinite_both = λ s d e. rw (d, e) (elim s [ true ↦ refl | false ↦ refl ]);
-    invalid = λ s d e. rw (d, e) (elim s [ true ↦ refl | false ↦ refl ]);
+    infinite_both = λ s d e. rw (d, e) (elim s as (λ s. add f (inf s) (inf s) ≡ inf s) [ true ↦ refl | false ↦ refl ]);
+    invalid = λ s d e. rw (d, e) (elim s as (λ s. add f (inf s) (inf (not s)) ≡ nan) [ true ↦ refl | false ↦ refl ]);
     not_a_number = not_a_number (add f) (λ y. refl) (λ s. refl) (λ s m e. refl) x y;
   }
 
