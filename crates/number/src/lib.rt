@@ -3,6 +3,8 @@
 // `sanitise`, `clamp_floor` and the clamping in `limit` follow relay-mix-quad, `clamp01` follows relay-mix-multi
 // (Apache-2.0, see NOTICE); changed: written in Rattle with contracts, on one `clamp` of our own, and with choices in
 // the place of branches.
+#![tactic(auto)]
+
 ghost use Rattle.std.specs.Prelude.{◌≡◌, cond};
 ghost use Rattle.std.specs.Float.Ieee.{is_nan};
 ghost use Rattle.std.specs.Float.Ieee.Scale.{finite};

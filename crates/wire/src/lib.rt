@@ -1,6 +1,8 @@
 // Bytes, and numbers of two and four bytes, little-endian, read from a lent slice and written to one, at any
 // place. A byte past the end is read as 0. A number that does not fit at its place is not written.
 
+#![tactic(auto)]
+
 ghost use Rattle.std.specs.Prelude.{◌≡◌, ◌+◌, leb};
 ghost use Rattle.wire.specs.Bytes.{bytes_of, read_at, write_at};
 

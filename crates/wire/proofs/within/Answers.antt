@@ -6,8 +6,7 @@ use Prim.Native.Nat.{ℕ, ◌+◌, ◌-◌, ◌≤◌, ◌<◌}
 use native.Mathlib.Omega.{arith}
 use lib.Dec.{leb}
 use borrow.Author.Tests.{le-leb, lt-leb, leb-true, leb-false}
-use Rattle.wire.proofs.within.Statement.{statement}
-use Rattle.wire.proofs.within.Tie as tie
+use Rattle.wire.proofs.within.Goals as goal
 
 moved : (at count len : ℕ) → count ≤ len → leb at (len - count) ≡ leb (at + count) len
 moved at count len h = go (leb at (len - count)) refl
@@ -16,13 +15,10 @@ moved at count len h = go (leb at (len - count)) refl
     go true e = let at_most : at ≤ len - count = leb-true _ _ e in sym (le-leb (at + count) len (omega arith))
     go false e = let above : len - count < at = leb-false _ _ e in sym (lt-leb (at + count) len (omega arith))
 
-returns : tie.Need-returns
-returns c = moved _ _ _ c.if1.true
+pub returns-then-count-len : goal.returns-then-count-len
+returns-then-count-len c = moved _ _ _ c.if-count-len.true
 
-returns-2 : tie.Need-returns-2
-returns-2 c =
-    let a = c.before.args in
+pub returns-else-count-len : goal.returns-else-count-len
+returns-else-count-len c =
+    let a = c.args in
     lt-leb a.count a.len (omega arith) ∙ sym (lt-leb (a.at + a.count) a.len (omega arith))
-
-pub within_spec : {M : Type 1} → statement M
-within_spec = tie.close (tie.spec returns returns-2)
