@@ -32,7 +32,7 @@ use denote.Memory.{mem}
 use denote.Array.{Array as array_row}
 use denote.Builtin.{f32, unit, RefOf, RefMutOf, ArrayOf}
 use denote.Exit.{yes}
-use denote.Ref.{Bor, MutBor, ShrRef, MutRef, shr_vals, shr_Tells, mut_Tells}
+use denote.Ref.{Bor, MutBor, ShrRef, MutRef, shr_vals, mut_vals, shr_Tells, mut_Tells}
 use denote.Signature.{plain}
 use denote.Steps.{opens, closes, peeks, nothing, only}
 use denote.Struct.Declared.{Declared, row}
@@ -151,7 +151,7 @@ module _ (T : Declared) (L : LL.Laws T) (cs : LL.Copyables T.parts) (k : ℕ) {M
         qed 𝓛 ((‵ (flft κ q) ⊛ (‵ (flft μ p) ⊛ ‵ ftrue))
         ∷ ‵ (owns (ShrRef (named 0) κ (row T) ∷ MutRef (named 1) μ Z ∷ []) (x, (out, tt)) args) ∷ []) ∵
         split ! $ move ! (1 ∷ []) $ split ! $ move ! (3 ∷ []) $ fsplit ! $ move ! (1 ∷ []) $ fsplit ! $ fsplit3 ! $
-        drop ! $ move ! (3 ∷ []) $ fsplit3 ! $ keep ! (2 ∷ 8 ∷ 3 ∷ 4 ∷ 6 ∷ []) $
+        drop ! $ move ! (3 ∷ []) $ fsplit ! $ keep ! (1 ∷ 7 ∷ 2 ∷ 3 ∷ 5 ∷ []) $
         -- [the shared borrow; its token; obs; the borrow of the output; its token]
         enter ! C Λ (copier T f k) (vptr x.ref_ptr.0 x.ref_ptr.1 ∷ vptr out.ref_ptr.0 out.ref_ptr.1 ∷ []) _ $
         alloc1 ! (λ l₀. alloc1 ! (λ l₁. alloc1 ! (λ l₂. alloc1 ! (λ l₃. alloc1 ! (λ l₄. alloc0 ! $ params1 ! $
@@ -215,7 +215,7 @@ module _ (T : Declared) (L : LL.Laws T) (cs : LL.Copyables T.parts) {M : Type 1}
       ) c
       (WpFn 𝓤 H 𝓣.C 𝓣.Λ code) (WpFn-mono 𝓤 H 𝓛.laws 𝓣 code)
       (walked 𝓛 S (stored T k) c (WpFn 𝓤 H 𝓣.C 𝓣.Λ code)
-      (λ κs. (shr_vals, (shr_vals, tt)))
+      (λ κs. (shr_vals, (mut_vals, tt)))
       (λ κs. (shr_Tells (named 0) κs.0 (row T), (mut_Tells (named 1) κs.1.0 (floats T k), tt)))
       (λ κs qs bounds a γ are. let h = a.0.now in via 𝓤 _ (fst∗ 𝓤 _ ((c κs a).requires γ))
       (walk_stored T L cs k 𝓛 c R says κs.0 κs.1.0 qs.0 qs.1.0 a.0 a.1.0 γ

@@ -1,11 +1,11 @@
 -- The code of a function that is lent a struct, walked by hand in the program logic. The struct is a declared type T,
 -- any one whose fields have their laws.
 --     opens_at               the borrow is opened, and the struct lies in memory
---     copies-out, puts-in    the two statements that touch the place, for any function that is lent one: the borrow is
+--     copies_out, puts_in    the two statements that touch the place, for any function that is lent one: the borrow is
 --                            opened and the struct read, and a struct is written and the borrow shut
 --     walks                  `let before = *s; let after = f(before, ..); *s = after;`, whatever is passed on beside
 --                            the struct: from what f meets
---     walks-unread           `let made = f(); *s = made;`, which does not read what stood there
+--     walks_unread           `let made = f(); *s = made;`, which does not read what stood there
 -- `Lending` takes the last two to the contracts. In a script a number is the position of an item in the context.
 -- Assumes nothing.
 use mathlib.Core.Path.{◌≡◌, refl, subst, ap}
