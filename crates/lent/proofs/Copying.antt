@@ -135,7 +135,8 @@ module _ (T : Declared) (L : LL.Laws T) (cs : LL.Copyables T.parts) (k : ℕ) {M
         -- [the tokens; obs; the borrow]
         feq_i ! (List Val) (vptr out.ref_ptr.0 out.ref_ptr.1 ∷ []) (vptr out.ref_ptr.0 out.ref_ptr.1 ∷ []) refl $
         move ! (0 ∷ 2 ∷ 3 ∷ []) $ fjoin3 ! $ nothing ! $ move ! (1 ∷ 0 ∷ []) $ fjoin ! $ nothing ! $ fjoin ! $
-        feq_i ! (List Val) (vunit ∷ []) (vunit ∷ []) refl $ move ! (1 ∷ 0 ∷ []) $ join ! $ move ! (1 ∷ 0 ∷ []) $ join ! $
+        feq_i ! (List Val) (vunit ∷ []) (vunit ∷ []) refl $ move ! (1 ∷ 0 ∷ []) $ join ! $
+        move ! (1 ∷ 0 ∷ []) $ join ! $
         use0 𝓛 (raw ((c (κ, (μ, tt)) (x, (out, tt))).ensures g tt
         (at_exit (storing T k) (κ, (μ, tt)) (x, (out, tt)) (tt, (z, tt)))))
         (subst (λ (P : SProp 𝓤). ent 𝓤 (emp 𝓤) P) (sym (says (κ, (μ, tt)) x out g z)) (fact_i 𝓤 _ _ e)) $
