@@ -5,7 +5,7 @@ use mathlib.Core.Path.{◌≡◌, sym, subst}
 use Prim.Native.Nat.{ℕ}
 use mathlib.Core.List.{List, [], ◌∷◌}
 use seplogic.Ra.Ura.{Ura}
-use mir.Syntax.{Name}
+use mir.Syntax.{Callee as Name}
 use mir.Val.{Val}
 use base.Logic.{SProp, ent, sep, ex, guard, via, ex_e, snd∗, id⊢}
 use prog.Wp.{Calls}

@@ -5,9 +5,9 @@ use mathlib.Core.Path.{◌≡◌, refl, sym, subst, ap}
 use Prim.Native.Nat.{ℕ, zero}
 use mathlib.Core.List.{List, [], ◌∷◌}
 use seplogic.Ra.Ura.{Ura}
-use seplogic.Ra.TreeShare.{full_share}
+use base.Fraction.{full_share}
 use lib.Ieee.{Float, binary32}
-use mir.Syntax.{Name, Ty, Fn, local, value_local, ty_ref, ty_array, ty_float, ty_unit, named, mut}
+use mir.Syntax.{Callee as Name, Ty, Fn, local, value_local, ty_ref, ty_array, ty_float, ty_unit, named, mut}
 use mir.Syntax.{place, deref, copy, opd_unit, rv_opd, assign, call, seq, return}
 use mir.Val.{Val, vptr, vunit}
 use base.Logic.{SProp, ent, sep, emp, via, fst∗}
@@ -32,7 +32,7 @@ use denote.Memory.{mem}
 use denote.Array.{Array as array_row}
 use denote.Builtin.{f32, unit, RefOf, RefMutOf, ArrayOf}
 use denote.Exit.{yes}
-use denote.Ref.{Bor, ShrRef, MutRef, shr_vals, shr_Tells, mut_Tells}
+use denote.Ref.{Bor, MutBor, ShrRef, MutRef, shr_vals, mut_vals, shr_Tells, mut_Tells}
 use denote.Signature.{plain}
 use denote.Steps.{opens, closes, peeks, nothing, only}
 use denote.Struct.Declared.{Declared, row}
@@ -60,6 +60,8 @@ module _ (T : Declared) where
   copier g k = record {
     lifetimes = 2;
     outlives = [];
+    ty_params = [];
+    givens = 0;
     params = 2;
     locals =
         local ty_unit value_local ∷ local (Shared T) value_local ∷ local (ty_ref (named 1) mut (Floats k)) value_local
@@ -98,7 +100,7 @@ module _ (T : Declared) (k : ℕ) where
 
 module _ (T : Declared) (L : LL.Laws T) (cs : LL.Copyables T.parts) (k : ℕ) {M : Type 1} {𝓤 : Ura M} (𝓛 : Logic 𝓤)
     (c : Clauses 𝓤 (storing T k)) (R : T.D → List Float → Type 0)
-    (says : (κs : Lfts 2) (x : Bor T.D) (out : Bor (List Float)) (g : (c κs (x, (out, tt))).ghost) (z : List Float)
+    (says : (κs : Lfts 2) (x : Bor T.D) (out : MutBor (List Float)) (g : (c κs (x, (out, tt))).ghost) (z : List Float)
     → (c κs (x, (out, tt))).ensures g tt (at_exit (storing T k) κs (x, (out, tt)) (tt, (z, tt)))
     ≡ fact 𝓤 (R x.now z)) where
   -- the laws of [f32; k]
@@ -110,7 +112,7 @@ module _ (T : Declared) (L : LL.Laws T) (cs : LL.Copyables T.parts) (k : ℕ) {M
   abbrev l : LL.FLaws (array_field f32-field k)
   l = LL.array_laws f32-field LL.f32-laws k
 
-  module _ (κ μ : Lft) (q p : Share) (x : Bor T.D) (out : Bor (List Float))
+  module _ (κ μ : Lft) (q p : Share) (x : Bor T.D) (out : MutBor (List Float))
       (g : (c (κ, (μ, tt)) (x, (out, tt))).ghost) where
     abbrev args : List Val × (List Val × Unit {0})
     args = (vptr x.ref_ptr.0 x.ref_ptr.1 ∷ [], (vptr out.ref_ptr.0 out.ref_ptr.1 ∷ [], tt))
@@ -121,19 +123,20 @@ module _ (T : Declared) (L : LL.Laws T) (cs : LL.Copyables T.parts) (k : ℕ) {M
         (((κ, (μ, tt)), (q, (p, tt)), tt, (x, (out, tt)), args), g)
 
     stores : (z : List Float) → R x.now z
-        → ent 𝓤 (sep 𝓤 (A.obs out.name (Z.coded.code z))
-        (sep 𝓤 (A.bor μ (Held (mem Z) out.ptr.0 out.ptr.1 out.name)) (sep 𝓤 (A.lft μ p) (A.lft κ q))))
+        → ent 𝓤 (sep 𝓤 (A.obs out.ghost_name (Z.coded.code z))
+        (sep 𝓤 (A.bor μ (Held (mem Z) out.ref_ptr.0 out.ref_ptr.1 out.ghost_name)) (sep 𝓤 (A.lft μ p) (A.lft κ q))))
         (PostOf vunit)
     stores z e =
-        qed 𝓛 (‵ (fobs out.name (Z.coded.code z))
-        ∷ ‵ (fbor μ (Held (mem Z) out.ptr.0 out.ptr.1 out.name)) ∷ ‵ (flft μ p) ∷ ‵ (flft κ q) ∷ []) ∵
+        qed 𝓛 (‵ (fobs out.ghost_name (Z.coded.code z))
+        ∷ ‵ (fbor μ (Held (mem Z) out.ref_ptr.0 out.ref_ptr.1 out.ghost_name)) ∷ ‵ (flft μ p) ∷ ‵ (flft κ q) ∷ []) ∵
         suffices ! _ (ends_at 𝓛 (storing T k) (stored T k) c
         (((κ, (μ, tt)), (q, (p, tt)), tt, (x, (out, tt)), args), g) vunit tt (tt, (z, tt)) (tt, (tt, tt))) $
         nothing ! $ move ! (3 ∷ 0 ∷ []) $ join ! $ move ! (3 ∷ 0 ∷ []) $ join ! $
         -- [the tokens; obs; the borrow]
-        feq_i ! (List Val) (vptr out.ptr.0 out.ptr.1 ∷ []) (vptr out.ptr.0 out.ptr.1 ∷ []) refl $
+        feq_i ! (List Val) (vptr out.ref_ptr.0 out.ref_ptr.1 ∷ []) (vptr out.ref_ptr.0 out.ref_ptr.1 ∷ []) refl $
         move ! (0 ∷ 2 ∷ 3 ∷ []) $ fjoin3 ! $ nothing ! $ move ! (1 ∷ 0 ∷ []) $ fjoin ! $ nothing ! $ fjoin ! $
-        feq_i ! (List Val) (vunit ∷ []) (vunit ∷ []) refl $ move ! (1 ∷ 0 ∷ []) $ join ! $ move ! (1 ∷ 0 ∷ []) $ join ! $
+        feq_i ! (List Val) (vunit ∷ []) (vunit ∷ []) refl $ move ! (1 ∷ 0 ∷ []) $ join ! $
+        move ! (1 ∷ 0 ∷ []) $ join ! $
         use0 𝓛 (raw ((c (κ, (μ, tt)) (x, (out, tt))).ensures g tt
         (at_exit (storing T k) (κ, (μ, tt)) (x, (out, tt)) (tt, (z, tt)))))
         (subst (λ (P : SProp 𝓤). ent 𝓤 (emp 𝓤) P) (sym (says (κ, (μ, tt)) x out g z)) (fact_i 𝓤 _ _ e)) $
@@ -144,14 +147,14 @@ module _ (T : Declared) (L : LL.Laws T) (cs : LL.Copyables T.parts) (k : ℕ) {M
         (R x.now) (emp 𝓤)
         → ent 𝓤 (on_entry 𝓛 (storing T k).signature (κ, (μ, tt)) (q, (p, tt)) (x, (out, tt)) args)
         (WpFn 𝓤 H C Λ (copier T f k)
-        (vptr x.ptr.0 x.ptr.1 ∷ vptr out.ptr.0 out.ptr.1 ∷ []) PostOf)
+        (vptr x.ref_ptr.0 x.ref_ptr.1 ∷ vptr out.ref_ptr.0 out.ref_ptr.1 ∷ []) PostOf)
     walk_stored {f} C Λ fm by_value =
         qed 𝓛 ((‵ (flft κ q) ⊛ (‵ (flft μ p) ⊛ ‵ ftrue))
         ∷ ‵ (owns (ShrRef (named 0) κ (row T) ∷ MutRef (named 1) μ Z ∷ []) (x, (out, tt)) args) ∷ []) ∵
         split ! $ move ! (1 ∷ []) $ split ! $ move ! (3 ∷ []) $ fsplit ! $ move ! (1 ∷ []) $ fsplit ! $ fsplit3 ! $
-        drop ! $ move ! (3 ∷ []) $ fsplit3 ! $ keep ! (2 ∷ 8 ∷ 3 ∷ 4 ∷ 6 ∷ []) $
+        drop ! $ move ! (3 ∷ []) $ fsplit ! $ keep ! (1 ∷ 7 ∷ 2 ∷ 3 ∷ 5 ∷ []) $
         -- [the shared borrow; its token; obs; the borrow of the output; its token]
-        enter ! C Λ (copier T f k) (vptr x.ptr.0 x.ptr.1 ∷ vptr out.ptr.0 out.ptr.1 ∷ []) _ $
+        enter ! C Λ (copier T f k) (vptr x.ref_ptr.0 x.ref_ptr.1 ∷ vptr out.ref_ptr.0 out.ref_ptr.1 ∷ []) _ $
         alloc1 ! (λ l₀. alloc1 ! (λ l₁. alloc1 ! (λ l₂. alloc1 ! (λ l₃. alloc1 ! (λ l₄. alloc0 ! $ params1 ! $
         pass1 ! (init ! 6 refl (tt, tt)) $ pass1 ! (init ! 4 refl (tt, tt)) $ pass0 ! $
         move ! (10 ∷ 11 ∷ 2 ∷ 6 ∷ []) $
@@ -169,12 +172,12 @@ module _ (T : Declared) (L : LL.Laws T) (cs : LL.Copyables T.parts) (k : ℕ) {M
         rewrite ! 5 (λ (w : Val). ‵ (fat full_share (Floats T k) l₄ zero w)) (ap only (l.tells z (v ∷ []) is)) refl $
         move ! (13 ∷ 14 ∷ 15 ∷ []) $ opens ! tt Z {h = out.now} out.ref_ptr.0 out.ref_ptr.1 (λ vs.
         spelt ! Z (Is Z) (shows 𝓛 Z) (λ z. l.val z ∷ []) l.tells full_share out.now vs out.ref_ptr.0
-        out.ptr.1 $ move ! (1 ∷ []) $ drop ! $
+        out.ref_ptr.1 $ move ! (1 ∷ []) $ drop ! $
         -- [the output's cell; the open borrow, three; what the floats own; nothing; the token; …]
         assigns ! (of_opd ! (load ! (from ! (stop !)) (look ! 9 refl))) (from ! (hop ! (look ! 12 refl) (stop !)))
         (store_raw ! 0 refl ((l.lawful 𝓛).typed z (l.val z ∷ [])
         (subst (Is Z z) (l.tells z (v ∷ []) is) is)).0) $
-        move ! (0 ∷ 4 ∷ 1 ∷ 2 ∷ 3 ∷ []) $ closes ! tt Z z (l.val z ∷ []) out.ptr.0 out.ptr.1 $
+        move ! (0 ∷ 4 ∷ 1 ∷ 2 ∷ 3 ∷ []) $ closes ! tt Z z (l.val z ∷ []) out.ref_ptr.0 out.ref_ptr.1 $
         assigns ! (of_opd ! (unit_lit !)) (from ! (stop !)) (init ! 13 refl (tt, tt)) $ returns ! (look ! 13 refl) $
         forget ! 5 refl $ forget ! 6 refl $ forget ! 7 refl $ forget ! 10 refl $ forget ! 13 refl $
         move ! (13 ∷ 14 ∷ []) $ free1 ! $ move ! (6 ∷ 12 ∷ []) $ free1 ! $ move ! (9 ∷ 10 ∷ []) $ free1 ! $
@@ -196,7 +199,7 @@ module _ (T : Declared) (L : LL.Laws T) (cs : LL.Copyables T.parts) {M : Type 1}
       → ((h : T.D) → (c₀ tt (h, tt)).requires (ghost h) ≡ emp 𝓤)
       → ((h : T.D) (z : List Float) (e : AtExit (read T (floats T k)) tt)
       → (c₀ tt (h, tt)).ensures (ghost h) z e ≡ fact 𝓤 (R h z))
-      → ((κs : Lfts 2) (x : Bor T.D) (out : Bor (List Float)) (g : (c κs (x, (out, tt))).ghost) (z : List Float)
+      → ((κs : Lfts 2) (x : Bor T.D) (out : MutBor (List Float)) (g : (c κs (x, (out, tt))).ghost) (z : List Float)
       → (c κs (x, (out, tt))).ensures g tt (at_exit (storing T k) κs (x, (out, tt)) (tt, (z, tt))) ≡ fact 𝓤 (R x.now z))
       → Meets 𝓛 (read T (floats T k)).signature (𝓡.run routine) (closing 𝓛 (read T (floats T k)) c₀)
       → Meets 𝓛 (storing T k).signature (𝓡.run (env f)) (closing 𝓛 (storing T k) c)
@@ -213,7 +216,7 @@ module _ (T : Declared) (L : LL.Laws T) (cs : LL.Copyables T.parts) {M : Type 1}
       ) c
       (WpFn 𝓤 H 𝓣.C 𝓣.Λ code) (WpFn-mono 𝓤 H 𝓛.laws 𝓣 code)
       (walked 𝓛 S (stored T k) c (WpFn 𝓤 H 𝓣.C 𝓣.Λ code)
-      (λ κs. (shr_vals, (shr_vals, tt)))
+      (λ κs. (shr_vals, (mut_vals, tt)))
       (λ κs. (shr_Tells (named 0) κs.0 (row T), (mut_Tells (named 1) κs.1.0 (floats T k), tt)))
       (λ κs qs bounds a γ are. let h = a.0.now in via 𝓤 _ (fst∗ 𝓤 _ ((c κs a).requires γ))
       (walk_stored T L cs k 𝓛 c R says κs.0 κs.1.0 qs.0 qs.1.0 a.0 a.1.0 γ

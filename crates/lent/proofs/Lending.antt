@@ -8,7 +8,7 @@ use mathlib.Core.Path.{◌≡◌, refl, sym, subst, ap, ◌∙◌}
 use Prim.Native.Nat.{ℕ, suc}
 use mathlib.Core.List.{List, [], ◌∷◌}
 use seplogic.Ra.Ura.{Ura}
-use mir.Syntax.{Name}
+use mir.Syntax.{Callee as Name}
 use mir.Val.{Val}
 use base.Logic.{SProp, ent, sep, emp, id⊢}
 use prog.Model.{Model}
@@ -23,7 +23,7 @@ use sound.WpLaws.{fm_of}
 use denote.RattleType.{Denots, Valss, owns}
 use denote.Laws.{valss}
 use denote.Exit.{yes}
-use denote.Ref.{Bor}
+use denote.Ref.{MutBor}
 use denote.Signature.{Slot, plain, types_at}
 use denote.Steps.{nothing}
 use denote.Struct.Declared.{Declared, row}
@@ -54,7 +54,7 @@ module _ (T : Declared) {n : ℕ} (ps : List (PassedOn n)) where
 
 module _ (T : Declared) (L : LL.Laws T) {n : ℕ} (ps : List (PassedOn n)) {M : Type 1} {𝓤 : Ura M} (𝓛 : Logic 𝓤)
     (c : Clauses 𝓤 (by_value T ps)) (κs : Lfts (suc n)) (qs : Shares (suc n))
-    (x : Bor T.D) (a : Denots (rows κs ps)) (ghost : (c κs.1 (x.now, across κs ps a)).ghost) where
+    (x : MutBor T.D) (a : Denots (rows κs ps)) (ghost : (c κs.1 (x.now, across κs ps a)).ghost) where
   open 𝓛 use {H}
 
   abbrev vss : Valss (rows κs ps)
@@ -125,7 +125,7 @@ module _ (T : Declared) (L : LL.Laws T) {M : Type 1} {𝓤 : Ura M} (𝓛 : Logi
       → (c₀ κs.1 (h, a)).requires (ghost κs h a) ≡ emp 𝓤)
       → ((κs : Lfts (suc n)) (h : T.D) (a : Denots (rows_inside κs ps)) (r : T.D) (e : AtExit (by_value T ps) κs.1)
       → (c₀ κs.1 (h, a)).ensures (ghost κs h a) r e ≡ fact 𝓤 (R κs h a r))
-      → ((κs : Lfts (suc n)) (x : Bor T.D) (a : Denots (rows κs ps)) (g : (c κs (x, a)).ghost)
+      → ((κs : Lfts (suc n)) (x : MutBor T.D) (a : Denots (rows κs ps)) (g : (c κs (x, a)).ghost)
       (ws : Fins κs (slots ps) (all yes (slots ps)) a) (r : T.D)
       → (c κs (x, a)).ensures g tt (at_exit (on_loan T ps) κs (x, a) (r, ws))
       ≡ fact 𝓤 (R κs x.now (across κs ps a) r))
@@ -160,7 +160,7 @@ module _ (T : Declared) (L : LL.Laws T) {M : Type 1} {𝓤 : Ura M} (𝓛 : Logi
       → (c₀ : Clauses 𝓤 made) (c : Clauses 𝓤 (on_loan T none)) (R : T.D → Type 0)
       → (ghost : (c₀ tt tt).ghost) → (c₀ tt tt).requires ghost ≡ emp 𝓤
       → ((r : T.D) (e : AtExit made tt) → (c₀ tt tt).ensures ghost r e ≡ fact 𝓤 (R r))
-      → ((κs : Lfts 1) (x : Bor T.D) (a : Unit {0}) (g : (c κs (x, a)).ghost) (ws : Unit {0}) (r : T.D)
+      → ((κs : Lfts 1) (x : MutBor T.D) (a : Unit {0}) (g : (c κs (x, a)).ghost) (ws : Unit {0}) (r : T.D)
       → (c κs (x, a)).ensures g tt (at_exit (on_loan T none) κs (x, a) (r, ws)) ≡ fact 𝓤 (R r))
       → Meets 𝓛 made.signature (𝓡.run routine) (closing 𝓛 made c₀)
       → Meets 𝓛 (on_loan T none).signature (𝓡.run (env f)) (closing 𝓛 (on_loan T none) c)

@@ -10,8 +10,7 @@ use mir.Val.{Val, vptr, vunit}
 use base.Logic.{SProp, ent, sep, emp, via, fst∗}
 use base.Fml.{flft, fobs, fbor}
 use prog.Wp.{Heap, WpFn, Tables}
-use ghost.Atoms.{meaning}
-use types.Logic.{Logic}
+use types.Logic.{Logic, sem}
 use contract.Monad.{fact, fact_i}
 use contract.Lifetimes.{Lfts, Shares, toks}
 use types.Kit.{‵, raw, ◌⊛◌, ◌$◌, ◌∵◌, !, qed, by, move, drop, use0, split, join, fsplit, fsplit3, fjoin, fjoin3}
@@ -58,7 +57,7 @@ module _ (n : ℕ) {M : Type 1} {𝓤 : Ura M} (𝓛 : Logic 𝓤) (κs : Lfts (
   tokens = toks 𝓛 n κs.1 qs.1
 
   abbrev pub passing : (H : Heap 𝓤) (ps : List (PassedOn n)) → Denots (rows κs ps) → SProp 𝓤
-  passing H ps a = sep 𝓤 (meaning 𝓛 (owns (rows κs ps) a (valss (rows κs ps) (spelled κs ps) a))) tokens
+  passing H ps a = sep 𝓤 (sem 𝓛 (owns (rows κs ps) a (valss (rows κs ps) (spelled κs ps) a))) tokens
 
 -- c is the contract, which says Says κs x a r of the struct x that was lent, the other parameters a and the struct r
 -- after
@@ -89,19 +88,19 @@ module _ (T : Declared) (L : LL.Laws T) {n : ℕ} (ps : List (PassedOn n)) {M : 
       abbrev Post : Val → SProp 𝓤
       Post =
           (walk_of 𝓛 (on_loan T ps) (stayed T ps) c).post
-          ((κs, qs, tt, (x, a), (vptr x.ptr.0 x.ptr.1 ∷ [], vss)), g)
+          ((κs, qs, tt, (x, a), (vptr x.ref_ptr.0 x.ref_ptr.1 ∷ [], vss)), g)
 
-      exits : Ends T L 𝓛 κs.0 qs.0 x.name x.ptr.0 x.ptr.1 (Says κs x a)
+      exits : Ends T L 𝓛 κs.0 qs.0 x.ghost_name x.ref_ptr.0 x.ref_ptr.1 (Says κs x a)
           (tokens n 𝓛 κs qs) Post
       exits r e =
-          qed 𝓛 (‵ (fobs x.name ((row T).coded.code r))
-          ∷ ‵ (fbor κs.0 (Held (mem (row T)) x.ptr.0 x.ptr.1 x.name)) ∷ ‵ (flft κs.0 qs.0)
+          qed 𝓛 (‵ (fobs x.ghost_name ((row T).coded.code r))
+          ∷ ‵ (fbor κs.0 (Held (mem (row T)) x.ref_ptr.0 x.ref_ptr.1 x.ghost_name)) ∷ ‵ (flft κs.0 qs.0)
           ∷ raw (tokens n 𝓛 κs qs) ∷ []) ∵
           suffices ! _ (ends_at 𝓛 (on_loan T ps) (stayed T ps) c
-          ((κs, qs, tt, (x, a), (vptr x.ptr.0 x.ptr.1 ∷ [], vss)), g)
+          ((κs, qs, tt, (x, a), (vptr x.ref_ptr.0 x.ref_ptr.1 ∷ [], vss)), g)
           vunit tt (r, lasting κs ps a) (tt, fits κs ps a (lasting κs ps a))) $
           move ! (2 ∷ 3 ∷ []) $ join ! $
-          feq_i ! (List Val) (vptr x.ptr.0 x.ptr.1 ∷ []) (vptr x.ptr.0 x.ptr.1 ∷ []) refl $
+          feq_i ! (List Val) (vptr x.ref_ptr.0 x.ref_ptr.1 ∷ []) (vptr x.ref_ptr.0 x.ref_ptr.1 ∷ []) refl $
           move ! (0 ∷ 2 ∷ 3 ∷ []) $ fjoin3 ! $
           use0 𝓛 (‵ (has_of κs (slots ps) (all yes (slots ps)) (dropped ps) a (lasting κs ps a) vss))
           (had 𝓛 κs ps a (lasting κs ps a) vss) $ move ! (1 ∷ 0 ∷ []) $ fjoin ! $
@@ -112,15 +111,15 @@ module _ (T : Declared) (L : LL.Laws T) {n : ℕ} (ps : List (PassedOn n)) {M : 
           move ! (1 ∷ 0 ∷ []) $ done !
 
       enters : (f : Fn) (𝓣 : Tables 𝓤 H) → Walked f 𝓣 → Are (rows κs ps) (Ises (rows κs ps)) a vss
-          → ent 𝓤 (on_entry 𝓛 (on_loan T ps).signature κs qs (x, a) (vptr x.ptr.0 x.ptr.1 ∷ [], vss))
-          (WpFn 𝓤 H 𝓣.C 𝓣.Λ f (vptr x.ptr.0 x.ptr.1 ∷ flat (rows κs ps) vss) Post)
+          → ent 𝓤 (on_entry 𝓛 (on_loan T ps).signature κs qs (x, a) (vptr x.ref_ptr.0 x.ref_ptr.1 ∷ [], vss))
+          (WpFn 𝓤 H 𝓣.C 𝓣.Λ f (vptr x.ref_ptr.0 x.ref_ptr.1 ∷ flat (rows κs ps) vss) Post)
       enters f 𝓣 walk are =
           subst (λ (us : List Val).
-          ent 𝓤 (on_entry 𝓛 (on_loan T ps).signature κs qs (x, a) (vptr x.ptr.0 x.ptr.1 ∷ [], vss))
-          (WpFn 𝓤 H 𝓣.C 𝓣.Λ f (vptr x.ptr.0 x.ptr.1 ∷ us) Post)) (in_a_row κs ps a)
+          ent 𝓤 (on_entry 𝓛 (on_loan T ps).signature κs qs (x, a) (vptr x.ref_ptr.0 x.ref_ptr.1 ∷ [], vss))
+          (WpFn 𝓤 H 𝓣.C 𝓣.Λ f (vptr x.ref_ptr.0 x.ref_ptr.1 ∷ us) Post)) (in_a_row κs ps a)
           (qed 𝓛 ((‵ (flft κs.0 qs.0) ⊛ raw (tokens n 𝓛 κs qs))
           ∷ ‵ (owns (MutRef (named 0) κs.0 (row T) ∷ rows κs ps) (x, a)
-          (vptr x.ptr.0 x.ptr.1 ∷ [], vss)) ∷ []) ∵
+          (vptr x.ref_ptr.0 x.ref_ptr.1 ∷ [], vss)) ∷ []) ∵
           split ! $ move ! (2 ∷ []) $ fsplit ! $ fsplit3 ! $ drop ! $ move ! (2 ∷ 4 ∷ []) $ join ! $
           move ! (1 ∷ 2 ∷ 3 ∷ 0 ∷ []) $ by ! (walk Post exits (typed κs 𝓛 ps a are)))
 

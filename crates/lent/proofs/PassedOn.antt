@@ -17,7 +17,7 @@ use denote.RattleType.{RattleType, Denots, Valss, flat, owns}
 use denote.Laws.{Ises, Are, Spells, Tellss, valss, Typed as TypedBy}
 use denote.Memory.{lone, pointee}
 use denote.Builtin.{One}
-use denote.Exit.{Exit, Last, left, yes}
+use denote.Exit.{Exit, Kept, Last, left, unchanged, yes}
 use denote.Ref.{NamedLft}
 use denote.Signature.{Slot, plain, types_at, named_lft}
 use denote.Struct.Field.{Field, shr_ref_field}
@@ -49,9 +49,9 @@ module _ {n : ℕ} (κs : Lfts n) where
   laws (value F l c) = l
   laws (shared j ok R one) = LL.shr_ref_laws (named_next n j ok κs) R one
 
-  abbrev copies : (p : PassedOn n) → LL.Copyable (outside p)
-  copies (value F l c) = c
-  copies (shared j ok R one) = LL.shr_ref_copy (named_next n j ok κs) R one
+  still : (p : PassedOn n) (k : Kept) → (outside p).row.exit k ≡ unchanged
+  still (value F l c) k = c.still k
+  still (shared j ok R one) k = refl
 
   -- they are the same but for the lifetime's number, of which what is owned says nothing
   abbrev cross : (p : PassedOn n) → (outside p).row.Denot → (inside p).row.Denot
@@ -156,7 +156,7 @@ module _ {n : ℕ} (κs : Lfts (suc n)) where
   pub lasting : (ps : List (PassedOn n)) (a : Denots (rows ps)) → Fins κs (slots ps) (all yes (slots ps)) a
   lasting [] a = tt
   lasting (p ∷ ps) a = (
-    subst (λ (e : Exit (outside κs.1 p).row.Denot). Last e a.0) (sym ((copies κs.1 p).still yes)) tt,
+    subst (λ (e : Exit (outside κs.1 p).row.Denot). Last e a.0) (sym (still κs.1 p yes)) tt,
     lasting ps a.1,
   )
 
@@ -183,7 +183,7 @@ module _ {n : ℕ} where
         → Silent 𝓛 (suc n) (plain (λ κs. (outside κs.1 p).row)) yes
     silent p κs =
         subst (λ (e : Exit (outside κs.1 p).row.Denot). (x : (outside κs.1 p).row.Denot) (f : Last e x)
-        → left e x f ≡ ftrue) (sym ((copies κs.1 p).still yes)) (λ x f. refl)
+        → left e x f ≡ ftrue) (sym (still κs.1 p yes)) (λ x f. refl)
 
     pub go_dropped : (ps : List (PassedOn n))
         → AllGo 𝓛 (suc n) (slots ps) (all yes (slots ps)) (dropped ps)

@@ -5,11 +5,11 @@ use mathlib.Core.Path.{◌≡◌, refl, sym, subst}
 use Prim.Native.Nat.{ℕ, zero}
 use mathlib.Core.List.{List, [], ◌∷◌}
 use seplogic.Ra.Ura.{Ura}
-use mir.Syntax.{Name, Body, Ty, Fn, local, value_local, ty_ref, named, imm}
+use mir.Syntax.{Callee as Name, Body, Ty, Fn, local, value_local, ty_ref, named, imm}
 use mir.Syntax.{place, deref, copy, rv_opd, assign, call, seq, return}
 use mir.Val.{Val, vptr}
 use base.Logic.{SProp, ent, sep, emp, via, fst∗, id⊢}
-use base.Fml.{Lft, Share, ftrue, flft, fshr_bor}
+use base.Fml.{Lft, Share, ftrue, flft}
 use prog.Model.{Model}
 use prog.Routine.{Env as Routines, Routine}
 use prog.Wp.{Calls, Loops, WpFn, Tables, Closed, Env, spot_of}
@@ -18,14 +18,14 @@ use contract.Monad.{fact, fact_i}
 use contract.Lifetimes.{Lfts}
 use contract.Running.{Running, tables, tables_of}
 use types.Kit.{Item, ‵, raw, some, given, later, Seq, runs, at_ret, ◌⊛◌, ◌$◌, ◌∵◌, !, Go, qed, by, move, keep}
-use types.Kit.{drop, use0, use1, split, join, fsplit, fsplit3, fjoin, await, pick, learn}
+use types.Kit.{drop, use0, use1, split, join, fsplit, fjoin, await, pick, learn}
 use types.Kit.{suffices, done}
 use types.Run.{Opds, look, look_raw, and_then, no_more, init, stop, hop, from, load, of_opd}
 use types.Run.{assigns, land, returns, enter, alloc1, alloc0, params1, pass1, pass0, forget, free1, free0}
 use sound.WpLaws.{FmC, fm_of, WpFn-mono}
 use denote.RattleType.{RattleType, owns}
 use denote.Laws.{Is, shows}
-use denote.Memory.{lone, pointee, part_at}
+use denote.Memory.{lone, pointee, hidden_shr}
 use denote.Builtin.{RefOf}
 use denote.Exit.{yes}
 use denote.Ref.{Bor, ShrRef, shr_vals, shr_Tells}
@@ -60,6 +60,8 @@ module _ (T : Declared) where
   reader g ζ = record {
     lifetimes = 1;
     outlives = [];
+    ty_params = [];
+    givens = 0;
     params = 1;
     locals = local ζ value_local ∷ local Shared value_local ∷ local (State T) value_local ∷ [];
     body =
@@ -91,11 +93,11 @@ module _ (T : Declared) (L : LL.Laws T) (cs : LL.Copyables T.parts) where
         → Seq (Go {0}) 𝓛 (owned T L h ∷ ‵ (flft κ q) ∷ holds T L (State T) lⱼ (val T L h)
         ∷ holds T L π lₚ (vptr b o) ∷ Γ)
         (runs C Λ E rest (at_ret E Kf))
-        → Seq (Go {0}) 𝓛 (‵ (fshr_bor κ (λ s. part_at (row T) s h b o)) ∷ ‵ (flft κ q) ∷ room T L (State T) lⱼ
+        → Seq (Go {0}) 𝓛 (‵ (hidden_shr (row T) κ h b o) ∷ ‵ (flft κ q) ∷ room T L (State T) lⱼ
         ∷ holds T L π lₚ (vptr b o) ∷ Γ)
         (runs C Λ E (seq (assign (place j []) (rv_opd (copy (place p (deref (State T) ∷ []))))) rest) (at_ret E Kf))
     copies_shared b o h eₚ eⱼ k =
-        looks ! tt (row T) (Is (row T)) (shows 𝓛 (row T)) (LL.vals T L) (LL.tells T L) (LL.copy T cs 𝓛) h b o
+        looks ! tt (row T) (LL.copied T cs 𝓛).opens h b o
         (λ q' vs.
         spelt ! (row T) (Is (row T)) (shows 𝓛 (row T)) (LL.vals T L) (LL.tells T L) q' h vs b o $
         move ! (1 ∷ []) $ peeks ! (row T) (Is (row T)) (shows 𝓛 (row T)) h (val T L h ∷ []) (λ was.
@@ -174,7 +176,7 @@ module _ (T : Declared) (L : LL.Laws T) (cs : LL.Copyables T.parts) (F : Field) 
     exits z v e =
         qed 𝓛 (‵ (F.row.own_val z (v ∷ [])) ∷ ‵ (flft κ q) ∷ []) ∵
         suffices ! _ (ends_at 𝓛 (answering T F.row) (answered T F.row) c
-        (((κ, tt), (q, tt), tt, (x, tt), (vptr x.ptr.0 x.ptr.1 ∷ [], tt)), g) v z (tt, tt) (tt, tt)) $
+        (((κ, tt), (q, tt), tt, (x, tt), (vptr x.ref_ptr.0 x.ref_ptr.1 ∷ [], tt)), g) v z (tt, tt) (tt, tt)) $
         nothing ! $ nothing ! $ fjoin ! $ move ! (1 ∷ 0 ∷ []) $ move ! (1 ∷ 0 ∷ []) $ join ! $
         nothing ! $ move ! (2 ∷ 0 ∷ []) $ join ! $ join ! $
         use0 𝓛 (raw ((c (κ, tt) (x, tt)).ensures g z (at_exit (answering T F.row) (κ, tt) (x, tt) (tt, tt))))
@@ -185,14 +187,14 @@ module _ (T : Declared) (L : LL.Laws T) (cs : LL.Copyables T.parts) (F : Field) 
         → Called 𝓛 F.row C f (val T L x.now ∷ []) (sem 𝓛 ((row T).own_val x.now (val T L x.now ∷ [])))
         (R x.now) (emp 𝓤)
         → ent 𝓤 (on_entry 𝓛 (answering T F.row).signature (κ, tt) (q, tt) (x, tt)
-        (vptr x.ptr.0 x.ptr.1 ∷ [], tt))
-        (WpFn 𝓤 H C Λ (reader T f (lone F.row.mir)) (vptr x.ptr.0 x.ptr.1 ∷ []) Post)
+        (vptr x.ref_ptr.0 x.ref_ptr.1 ∷ [], tt))
+        (WpFn 𝓤 H C Λ (reader T f (lone F.row.mir)) (vptr x.ref_ptr.0 x.ref_ptr.1 ∷ []) Post)
     walk {f} C Λ fm by_value =
         qed 𝓛 ((‵ (flft κ q) ⊛ ‵ ftrue)
-        ∷ ‵ (owns (ShrRef (named 0) κ (row T) ∷ []) (x, tt) (vptr x.ptr.0 x.ptr.1 ∷ [], tt)) ∷ []) ∵
-        split ! $ move ! (2 ∷ []) $ fsplit ! $ fsplit3 ! $ keep ! (2 ∷ 4 ∷ []) $
+        ∷ ‵ (owns (ShrRef (named 0) κ (row T) ∷ []) (x, tt) (vptr x.ref_ptr.0 x.ref_ptr.1 ∷ [], tt)) ∷ []) ∵
+        split ! $ move ! (2 ∷ []) $ fsplit ! $ fsplit ! $ keep ! (1 ∷ 3 ∷ []) $
         -- [the shared borrow; the token]
-        enter ! C Λ (reader T f (lone F.row.mir)) (vptr x.ptr.0 x.ptr.1 ∷ []) _ $
+        enter ! C Λ (reader T f (lone F.row.mir)) (vptr x.ref_ptr.0 x.ref_ptr.1 ∷ []) _ $
         alloc1 ! (λ l₀. alloc1 ! (λ l₁. alloc1 ! (λ l₂. alloc0 ! $ params1 ! $
         pass1 ! (init ! 2 refl (tt, tt)) $ pass0 ! $ move ! (6 ∷ 7 ∷ 0 ∷ 2 ∷ []) $
         copies_shared T L cs x.ref_ptr.0 x.ref_ptr.1 x.now refl refl (

@@ -1,19 +1,19 @@
 -- The code of a function that is lent a struct, walked by hand in the program logic. The struct is a declared type T,
 -- any one whose fields have their laws.
 --     opens_at               the borrow is opened, and the struct lies in memory
---     copies-out, puts-in    the two statements that touch the place, for any function that is lent one: the borrow is
+--     copies_out, puts_in    the two statements that touch the place, for any function that is lent one: the borrow is
 --                            opened and the struct read, and a struct is written and the borrow shut
 --     walks                  `let before = *s; let after = f(before, ..); *s = after;`, whatever is passed on beside
 --                            the struct: from what f meets
---     walks-unread           `let made = f(); *s = made;`, which does not read what stood there
+--     walks_unread           `let made = f(); *s = made;`, which does not read what stood there
 -- `Lending` takes the last two to the contracts. In a script a number is the position of an item in the context.
 -- Assumes nothing.
 use mathlib.Core.Path.{◌≡◌, refl, subst, ap}
 use Prim.Native.Nat.{ℕ, zero, suc}
 use mathlib.Core.List.{List, [], ◌∷◌}
 use seplogic.Ra.Ura.{Ura}
-use seplogic.Ra.TreeShare.{full_share}
-use mir.Syntax.{Name, Opd as Operand, Rv as RValue, Body, Ty, Fn, local, value_local, ty_ref, ty_unit}
+use base.Fraction.{full_share}
+use mir.Syntax.{Callee as Name, Opd as Operand, Rv as RValue, Body, Ty, Fn, local, value_local, ty_ref, ty_unit}
 use mir.Syntax.{named, mut, place, deref, copy, opd_unit, rv_opd, assign, call, seq, return}
 use mir.Val.{Val, vptr, vunit}
 use base.Logic.{SProp, ent, sep, emp, id⊢}
@@ -65,6 +65,8 @@ module _ (T : Declared) where
   lent f n τs = record {
     lifetimes = suc n;
     outlives = [];
+    ty_params = [];
+    givens = 0;
     params = suc (after τs zero);
     locals =
         local ty_unit value_local ∷ local Place value_local
@@ -77,6 +79,8 @@ module _ (T : Declared) where
   lent_unread f = record {
     lifetimes = 1;
     outlives = [];
+    ty_params = [];
+    givens = 0;
     params = 1;
     locals = local ty_unit value_local ∷ local Place value_local ∷ local State value_local ∷ [];
     body = code_unread f 2;
@@ -137,7 +141,7 @@ module _ (T : Declared) (L : LL.Laws T) where
       {E : Env 𝓤 𝓛.H} {rest : Body} {Kf : Val → SProp 𝓤} {κ : Lft} {q : Share} {γ : GName} {p lₚ : ℕ} {π : Ty}
       {Γ : List (Item 𝓤)} where
     -- the struct is copied to the local j, and the borrow is open
-    open Logic 𝓛 using (H)
+    open 𝓛 use {H}
 
     pub copies_out : (b o : ℕ) (h : T.D) {j lⱼ : ℕ} → spot_of 𝓤 H E p ≡ (π, lₚ, zero)
         → spot_of 𝓤 H E j ≡ (State T, lⱼ, zero)
