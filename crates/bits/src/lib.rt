@@ -3,6 +3,8 @@
 // `f32::from_bits` is not defined at a NaN's pattern, nor `f32::to_bits` at a NaN, so each is asked
 // about a NaN first. All NaN patterns are read as the one NaN, and it is written as `NAN`.
 
+#![tactic(auto)]
+
 ghost use Rattle.std.specs.Prelude.{◌≡◌};
 ghost use Rattle.std.specs.Float.{binary32};
 ghost use Rattle.std.specs.Float.Ieee.{of_bits, to_bits};

@@ -1,5 +1,8 @@
 // The largest and the least of some numbers. Follows the loops that relay-mix-quad's mixes have for them (Apache-2.0,
 // see NOTICE); changed: written in Rattle with contracts, as functions of their own over any count.
+
+#![tactic(auto)]
+
 ghost use Rattle.std.specs.Prelude.{◌≡◌, cond};
 ghost use Rattle.rules.specs.Extremes.{larger, smaller, best, largest, least};
 

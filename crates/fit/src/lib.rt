@@ -1,6 +1,9 @@
 // The fit scale over lent bases and deltas of any count. Follows relay-mix-quad's `scale_to_fit` (Apache-2.0, see
 // NOTICE); changed: written in Rattle with a contract, over slices in the place of arrays of four, with one quotient
 // for both signs of a delta, and with a look first whether any motor puts a limit under 1.
+
+#![tactic(auto)]
+
 ghost use Rattle.std.specs.Prelude.{◌≡◌, false, ◌||◌, min};
 ghost use Rattle.std.specs.Float.Ieee.{lt};
 ghost use Rattle.binary32.specs.Arithmetic.{1f};

@@ -1,6 +1,9 @@
 // Follows relay-mix-quad's det3 and solve3 (Apache-2.0, see NOTICE); changed: written in Rattle, with contracts; the
 // Option is a struct with a flag; the loops over three columns and three rows are written out; the size of the
 // determinant is compared from both sides, with no absolute value made.
+
+#![tactic(auto)]
+
 ghost use Rattle.std.specs.Prelude.{◌≡◌, ◌<◌};
 ghost use Rattle.std.specs.Float.Ieee.{lt};
 ghost use Rattle.binary32.specs.Arithmetic.{small, absolute};

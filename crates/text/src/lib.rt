@@ -1,6 +1,9 @@
 // Numbers as text, in lent bytes at any place. What does not fit at its place is not written.
 //
 // The digits are made by the kit's crate io, whose contracts say which they are; here they get their place in a line.
+
+#![tactic(auto)]
+
 ghost use Rattle.std.specs.Prelude.{◌≡◌, ◌≤◌, length};
 ghost use Rattle.wire.specs.Bytes.{write_at};
 ghost use Rattle.text.specs.Digits.{hex_of, decimal_of};
@@ -15,7 +18,7 @@ pub fn write(out: &mut [u8], at: usize, s: &[u8])
     if out.len() - s.len() < at {
         return;
     }
-    bytes::copy(s, &mut out[at..]);
+    out[at..at + s.len()].copy_from_slice(s);
 }
 
 // A float's bits as eight lower-case hex digits at a place.

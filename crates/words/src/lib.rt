@@ -1,4 +1,7 @@
 // Runs of 128 words, compared: how `replay` holds its answers to those of the list.
+
+#![tactic(auto)]
+
 ghost use Rattle.std.specs.Prelude.{◌≡◌};
 ghost use Rattle.words.specs.Words.{agree};
 

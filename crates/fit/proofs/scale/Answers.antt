@@ -6,13 +6,11 @@ use Prim.Native.Nat.{ℕ}
 use lib.Dec.{T}
 use lib.ListN.{get_or}
 use lib.Ieee.{Float, nan, binary32, fits}
-use borrow.Author.Rules.{rules}
 use Rattle.fit.specs.Fit.{fit_scale, Scaled}
 use Rattle.fit.proofs.Bounded.{scale_between, scale_finite}
 use Rattle.fit.proofs.Fitting.{scale_fitting}
 use Rattle.fit.proofs.Cut.{uncut_scale}
-use Rattle.fit.proofs.scale.Statement.{statement}
-use Rattle.fit.proofs.scale.Tie as tie
+use Rattle.fit.proofs.scale.Goals as goal
 
 keeps : (floor : Float) (bs ds : List Float) → T (fits binary32 floor) → ((k : ℕ) → T (fits binary32 (get_or bs k nan)))
     → ((k : ℕ) → T (fits binary32 (get_or ds k nan)))
@@ -25,20 +23,13 @@ keeps floor bs ds ff fb fd is =
       fitting = λ hf w. is ∙ scale_fitting floor bs ds (record { fits = ff; finite = hf }) fb fd w;
     }
 
-returns : tie.Need-returns
+pub returns-then-is_cut : goal.returns-then-is_cut
+returns-then-is_cut c =
+    keeps _ _ _ (rw c.well_formed.1.1.0.1 tt) c.shared_slice_known-1.given
+    c.shared_slice_known-2-1.given c.smallest.ensures
+
+pub returns : goal.returns
 returns c =
-    let known = c.before.before.before in
-    let start = known.before.before in
-    keeps _ _ _ (rw start.well-formed.1.1.0.1 tt) known.before.shared-slice-known.given
-    known.shared-slice-known2.given c.smallest.ensures
-
-returns-2 : tie.Need-returns-2
-returns-2 c =
-    let known = c.before.before in
-    let start = known.before.before in
-    keeps _ _ _ (rw start.well-formed.1.1.0.1 tt) known.before.shared-slice-known.given
-    known.shared-slice-known2.given
-    (sym (uncut_scale _ _ _ (sym c.before.is_cut.ensures ∙ c.if1.false)))
-
-pub scale_spec : {M : Type 1} → statement M
-scale_spec = tie.close (tie.spec (λ c κs. search rules) (λ c κs. search rules) returns returns-2)
+    keeps _ _ _ (rw c.well_formed.1.1.0.1 tt) c.shared_slice_known-1.given
+    c.shared_slice_known-2-1.given
+    (sym (uncut_scale _ _ _ (sym c.is_cut.ensures ∙ c.if-is_cut.false)))
