@@ -103,7 +103,7 @@ module _ {f : Format} where
   walk_from_larger [] na nh ns = refl
   walk_from_larger {a} {held} (x ∷ xs) na nh ns =
       ap (λ (h : Float). walked larger h xs) (sym (larger_of_three na nh ns.0))
-      ∙ walk_from_larger xs na (larger_is (Number f) held x nh ns.0) ns.1
+      ∙ walk_from_larger {held = larger held x} xs na (larger_is (Number f) held x nh ns.0) ns.1
 
   -- the largest with one more first is the larger of the two
   pub largest_with_first : {a : Float} (x : Float) (xs : List Float) → Number f a → Each (Number f) (x ∷ xs)

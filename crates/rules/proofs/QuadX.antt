@@ -75,7 +75,13 @@ limited_from_one : (xs : List Float) → Each (Number binary32) xs
     → lower_limited xs ≡ map (λ x. motor_of (largest (1f ∷ xs)) x) xs
 unfolding lower_limited lowered
 limited_from_one [] ns = refl
-limited_from_one (x ∷ xs) ns = rw (map-map, largest_with_first x xs one_number ns) (simp lowered_from_one)
+limited_from_one (x ∷ xs) ns =
+    simp map-map
+    (sym (ap (λ (most : Float). map (λ y. motor_of most y) (x ∷ xs)) (largest_with_first x xs one_number ns)
+    ∙ from_one (largest (x ∷ xs)) (x ∷ xs)))
+  where
+    from_one : (most : Float) (l : List Float) → map (λ y. motor_of (larger 1f most) y) l ≡ map (λ y. motor_of most y) l
+    from_one most l = simp lowered_from_one
 
 -- ---- a walk from 1 holds 1 or more, which nothing that is not over 1 takes the place of
 
@@ -174,13 +180,13 @@ module _ {A : Type 0} (sum : A → Float) where
         → Each (λ a. lt 1f (treated_sum a) ≡ false) m
         → walked larger h (map treated_sum (l ++ m)) ≡ walked larger h (map sum l)
     unfolding walked
-    same_walk h [] [] ls ms = refl
-    same_walk h [] (a ∷ m) ls ms =
+    same_walk {h = k} h [] [] ls ms = refl
+    same_walk {h = k} h [] (a ∷ m) ls ms =
         ap (λ (g : Float). walked larger g (map treated_sum m)) (kept h (treated_number a) ms.0)
-        ∙ same_walk h [] m tt ms.1
-    same_walk h (a ∷ l) m ls ms =
+        ∙ same_walk {h = k} h [] m tt ms.1
+    same_walk {h = k} h (a ∷ l) m ls ms =
         ap (λ (g : Float). walked larger g (map treated_sum (l ++ m))) (same_step h ls.0)
-        ∙ same_walk (larger_from_one h (number_of ls.0)) l m ls.1 ms
+        ∙ same_walk {h = larger k (sum a)} (larger_from_one h (number_of ls.0)) l m ls.1 ms
 
     -- so the frame's own motors are those of its raw sums
     same_motors : (l m : List A) → Each (λ a. FiniteOrLeast (sum a)) l → Each (λ a. lt 1f (treated_sum a) ≡ false) m
