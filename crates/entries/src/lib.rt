@@ -3,6 +3,9 @@
 //
 // A sheet comes from outside and is taken as it is: a byte past its end is read as 0, and every function here answers
 // for every sheet and every entry number.
+
+#![tactic(auto)]
+
 pub mod choice;
 pub mod command;
 pub mod layout;

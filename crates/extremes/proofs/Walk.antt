@@ -1,6 +1,7 @@
 -- The walk from a place on, whichever numbers it holds on to: it starts past the first, one step takes the number that
 -- stands there, and past the last nothing is left to do. Assumes nothing.
 use mathlib.Core.Path.{◌≡◌, refl}
+use mathlib.Core.Bool.{Bool, cond}
 use mathlib.Core.List.{List, [], ◌∷◌}
 use Prim.Native.Nat.{ℕ, ◌+◌, ◌≤◌, ◌<◌}
 use native.Mathlib.Numerals.{add-one}
@@ -9,7 +10,11 @@ use lib.ListN.{length, get_or, drop, drop_of_length-le}
 use lib.Seq.{drop-cons}
 use lib.Ieee.{Float, nan}
 use Rattle.binary32.specs.Arithmetic.{0f}
-use Rattle.rules.specs.Extremes.{walked, best}
+use Rattle.rules.specs.Extremes.{larger, smaller, walked, best}
+
+-- a step of the walk, up or down
+abbrev pub by : Bool → Float → Float → Float
+by up held x = cond up (larger held x) (smaller held x)
 
 module _ (better : Float → Float → Float) where
   pub best_of_none : (xs : List Float) → length xs ≡ 0 → 0f ≡ best better xs

@@ -1,6 +1,9 @@
 // All motors lowered together by what the largest has over 1, then each cut to 0..1: over any count, where they stand.
 // Follows the last two steps of relay-mix-quad's `mix`, the quad's and `MixerN`'s (Apache-2.0, see NOTICE); changed:
 // written in Rattle with contracts, one function for both, with choices in the place of branches.
+
+#![tactic(auto)]
+
 ghost use Rattle.std.specs.Prelude.{◌≡◌, cond};
 ghost use Rattle.std.specs.Float.Ieee.{lt};
 ghost use Rattle.binary32.specs.Arithmetic.{◌-f◌, 0f, 1f};

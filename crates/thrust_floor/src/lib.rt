@@ -1,6 +1,9 @@
 // The thrust-floor mix: thrust before torque. Follows relay-mix-quad's `mix_thrust_floor` (Apache-2.0, see NOTICE);
 // changed: written in Rattle with contracts, with choices in the place of branches and the loops over four motors
 // written out.
+
+#![tactic(auto)]
+
 ghost use Rattle.std.specs.Prelude.{◌≡◌};
 ghost use Rattle.rules.specs.Rows.{quad_rows};
 ghost use Rattle.rules.specs.ThrustFloor.{scaled_motor, thrust_floor_motors, thrust_floor_scale};

@@ -1,5 +1,8 @@
 // The torque that motors give. Follows relay-mix-quad's `motors_to_torque_signs` (Apache-2.0, see NOTICE); changed:
 // written in Rattle with contracts, the loop written out.
+
+#![tactic(auto)]
+
 ghost use Rattle.std.specs.Prelude.{◌≡◌, ◌<◌, get_or};
 ghost use Rattle.rules.specs.Rows.{quad_rows};
 ghost use Rattle.std.specs.Float.{nan};
