@@ -2,6 +2,9 @@
 // NOTICE); changed: written in Rattle with contracts, with choices in the place of branches, the loops over four motors
 // written out and the ends of the last clamp taken in turn, and without the tests there that never fail (a treated
 // spread is finite, and so is the quotient by a spread over SMALL).
+
+#![tactic(auto)]
+
 ghost use Rattle.std.specs.Prelude.{◌≡◌};
 ghost use Rattle.binary32.specs.Arithmetic.{0f, 1f};
 ghost use Rattle.binary32.specs.Range.{Between};

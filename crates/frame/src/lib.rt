@@ -6,6 +6,9 @@
 // is left out.
 //
 // What the mix answers is defined in the crate `rules`, and so are the promises that its contract ends with.
+
+#![tactic(auto)]
+
 ghost use Rattle.std.specs.Prelude.{◌≡◌, map, ◌*◌, min, length};
 ghost use Rattle.number.specs.Treat.{treated};
 ghost use Rattle.rules.specs.Rows.{rows_of, run_of, quad_x_rows};

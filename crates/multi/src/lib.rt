@@ -2,6 +2,9 @@
 //
 // Follows relay-mix-multi (Apache-2.0, see NOTICE); changed: written in Rattle with contracts; rows and outputs are
 // lent, up to 64 of them, in the place of a const generic struct that holds them, and are checked where they are used.
+
+#![tactic(auto)]
+
 mod tables;
 
 ghost use Rattle.std.specs.Prelude.{◌≡◌, ◌*◌, length};

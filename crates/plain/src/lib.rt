@@ -1,6 +1,9 @@
 // The plain mix: torque before thrust. Follows relay-mix-quad's `mix` (Apache-2.0, see NOTICE); changed: written in
 // Rattle with contracts, the loop over the rows written out, and what it shares with the mix of other frames in
 // functions of their own.
+
+#![tactic(auto)]
+
 ghost use Rattle.std.specs.Prelude.{◌≡◌};
 ghost use Rattle.rules.specs.Rows.{quad_rows};
 ghost use Rattle.rules.specs.Plain.{raw_sums, plain_motors};

@@ -1,6 +1,9 @@
 // The priority mix: thrust before roll and pitch, and these before yaw. Follows relay-mix-quad's `mix_priority`
 // (Apache-2.0, see NOTICE); changed: written in Rattle with contracts, with choices in the place of branches and the
 // loops over four motors written out.
+
+#![tactic(auto)]
+
 ghost use Rattle.std.specs.Prelude.{◌≡◌, map, get_or};
 ghost use Rattle.std.specs.Float.{nan};
 ghost use Rattle.number.specs.Treat.{treated};

@@ -2,6 +2,9 @@
 // Rattle with contracts, with choices in the place of branches, the loops over four motors written out, the lost
 // rotor's number written out where its equations are solved, a table of what the floor counts in the place of a choice
 // by that number, and the ends of the tilt's clamp taken in turn.
+
+#![tactic(auto)]
+
 ghost use Rattle.std.specs.Prelude.{◌≡◌, cond, map, ◌<◌, T, ltb, get_or};
 ghost use Rattle.std.specs.Float.{nan};
 ghost use Rattle.std.specs.Float.Ieee.Scale.{finite};

@@ -1,4 +1,7 @@
 // The command sheet as a whole: whether it is accepted.
+
+#![tactic(auto)]
+
 ghost use Rattle.std.specs.Prelude.{◌≡◌};
 ghost use Rattle.entries.specs.Layout.{count_of};
 ghost use Rattle.sheet.specs.Table.{entry_told, entries_told, judged, told_by};
