@@ -7,7 +7,7 @@ use Rattle.rotor_out.proofs.split_without.Goals as goal
 
 pub returns-in-0 : goal.returns-in-0
 unfolding base_without delta_without
-returns-in-0 c = rw c.in-0.keys1 (rw (
+returns-in-0 c = rw c.in-0.is (rw (
   c.both.ensures,
   c.solve3-in-0.ensures,
   c.solve3.ensures,
@@ -16,7 +16,7 @@ returns-in-0 c = rw c.in-0.keys1 (rw (
 
 pub returns-in-1 : goal.returns-in-1
 unfolding base_without delta_without
-returns-in-1 c = rw c.in-0.keys2 (rw (
+returns-in-1 c = rw c.in-1.is (rw (
   c.both-in-1.ensures,
   c.solve3-in-1-2.ensures,
   c.solve3-in-1.ensures,
@@ -25,7 +25,7 @@ returns-in-1 c = rw c.in-0.keys2 (rw (
 
 pub returns-in-2 : goal.returns-in-2
 unfolding base_without delta_without
-returns-in-2 c = rw c.in-0.keys3 (rw (
+returns-in-2 c = rw c.in-2.is (rw (
   c.both-in-2.ensures,
   c.solve3-in-2-2.ensures,
   c.solve3-in-2.ensures,
@@ -35,9 +35,7 @@ returns-in-2 c = rw c.in-0.keys3 (rw (
 pub returns-in_default : goal.returns-in_default
 unfolding base_without delta_without
 returns-in_default c =
-    let rest = c.in-0.rest in
-    let last : c.args.failed ≡ 3 =
-    omega (arith, c.requires, rest.1, rest.0.1, rest.0.0.1) in
+    let last : c.args.failed ≡ 3 = omega arith in
     rw last (rw (
       c.both-in_default.ensures,
       c.solve3-in_default-2.ensures,

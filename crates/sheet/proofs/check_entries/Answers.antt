@@ -20,10 +20,9 @@ loop-i-init c =
 pub returns-in_default : goal.returns-in_default
 returns-in_default c =
     let inv = c.loop-i.invariant in
-    let refusal = c.enum_told-in_default-1.given in
-    rw refusal.1
+    rw c.in_default.is
     (sym (told_refused _ c.loop-i.i _ c.loop-i-test.true
-    (sym (rw (refusal.1, inv.1) c c.check_entry-v.ensures)) (never_accepted refusal.0.0)) ∙ inv.2)
+    (sym (rw (c.in_default.is, inv.1) at c.check_entry-v.ensures)) (never_accepted c.in_default.field-0)) ∙ inv.2)
 
 pub overflow_add-end : goal.overflow_add-end
 overflow_add-end c =
@@ -39,7 +38,7 @@ loop-i-preserved c =
       omega arith,
       ap₂ ◌+◌ inv.1 (c.body_size-end.ensures ∙ ap body_size c.kind.ensures) ∙ sym (body_next s i),
       sym (told_passed s i _ c.loop-i-test.true
-          (accepted_number (rw inv.1 c c.check_entry-v.ensures) c.enum_told-1.given.1)) ∙ inv.2,
+          (accepted_number (rw inv.1 at c.check_entry-v.ensures) c.in-Accepted.is)) ∙ inv.2,
     )
 
 pub returns-then-end-sheet : goal.returns-then-end-sheet
@@ -47,7 +46,7 @@ returns-then-end-sheet c =
     let s = c.args.sheet.now in
     let k = c.count-k in
     let last : c.loop-i.i ≡ count_of s = omega (arith, k.ensures) in
-    rw (← c.loop-i.invariant.2, k.ensures, last, told_end, end_accepted s (rw (c.loop-i.invariant.1, last) c c.if-end-sheet.true))
+    rw (← c.loop-i.invariant.2, k.ensures, last, told_end, end_accepted s (rw (c.loop-i.invariant.1, last) at c.if-end-sheet.true))
 
 pub returns : goal.returns
 returns c =

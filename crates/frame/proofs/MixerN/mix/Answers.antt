@@ -11,12 +11,12 @@ pub returns : goal.returns
 unfolding frame_motors
 returns c =
     let args = c.args in
-    let is : c.lower_and_limit.new.0
-    ≡ frame_motors (rows_in args.self) args.torque-body args.thrust =
+    let is : c.lower_and_limit.new.m
+    ≡ frame_motors (rows_in args.self) args.torque_body args.thrust =
     simp (c.lower_and_limit.ensures, c.treated_sums.ensures) in
     record {
       is = is;
       keeps =
-          rw is (frame_keeps (rows_in args.self) args.torque-body args.thrust
-          (array_held 3 args.torque-body _ c.well_formed.1.0) (rw c.well_formed.1.1.0.1 tt));
+          rw is (frame_keeps (rows_in args.self) args.torque_body args.thrust
+          (array_held 3 args.torque_body _ c.well_formed.1.0) (rw c.well_formed.1.1.0.1 tt));
     }
