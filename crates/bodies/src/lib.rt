@@ -1,4 +1,7 @@
 // The body of an entry of a command sheet, which is a part of the sheet.
+
+#![tactic(auto)]
+
 ghost use Rattle.std.specs.Prelude.{◌≡◌};
 ghost use Rattle.bodies.specs.Body.{Handed};
 ghost use Rattle.bodies.specs.Place.{place_of};

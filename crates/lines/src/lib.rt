@@ -3,6 +3,9 @@
 //
 // The answers are the bytes that the run wrote, 20 for each entry. Sheet and answers are taken as they are: a byte past
 // an end is read as 0.
+
+#![tactic(auto)]
+
 ghost use Rattle.std.specs.Prelude.{◌∷◌, ◌++◌, ◌+◌, ◌*◌, ◌≤◌, length};
 ghost use Rattle.entries.specs.Layout.{kind_of, answer_size};
 ghost use Rattle.text.specs.Digits.{decimal_of};

@@ -6,6 +6,9 @@
 //
 // What each mix gives is said in specs/Mixes: the motors and the promises by the crate `rules`, and the recorded scale.
 // A state keeps the torque that its motors give, beside what the Rust's has (specs/State).
+
+#![tactic(auto)]
+
 ghost use Rattle.std.specs.Prelude.{◌≡◌};
 ghost use Rattle.rules.specs.Rows.{quad_rows};
 ghost use Rattle.rules.specs.Torque.{torque_of};

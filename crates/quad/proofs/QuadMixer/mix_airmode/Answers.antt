@@ -1,0 +1,12 @@
+-- `QuadMixer::mix_airmode` meets its contract: the state is the rule's, and so are the promises. Assumes nothing.
+use Rattle.rules.specs.Rows.{quad_rows}
+use Rattle.rules.proofs.Keeps.{airmode_keeps}
+use Rattle.quad.proofs.QuadMixed.{mixed}
+use Rattle.quad.proofs.QuadMixer.mix_airmode.Goals as goal
+
+pub returns : goal.returns
+returns c =
+    let args = c.args in
+    mixed (simp (c.state.ensures, c.motors-motors.ensures))
+    (airmode_keeps quad_rows args.torque_body args.thrust args.idle (rw c.well_formed.1.1.0.1 tt)
+    (rw c.well_formed.1.1.1.0.1 tt))
