@@ -10,7 +10,7 @@ use entries::layout::{body_size, count, kind, offset};
 use sheet::{Verdict, check};
 
 // A part of a sheet: where it begins, and how many bytes it has.
-#[derive(Drop)]
+#[derive(Clone, Copy)]
 pub struct Part {
     pub at: usize,
     pub size: usize,

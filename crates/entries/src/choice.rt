@@ -6,7 +6,7 @@ ghost use Rattle.entries.specs.Choice.{ChosenBy};
 use crate::refusal::Refusal;
 
 // Which command it is. Rotor-out has the lost rotor, 0 to 3, or `NONE_LOST`.
-#[derive(Drop)]
+#[derive(Clone, Copy)]
 pub enum Case {
     Plain,
     ThrustFloor,
@@ -16,7 +16,7 @@ pub enum Case {
 }
 
 // What is chosen.
-#[derive(Drop)]
+#[derive(Clone, Copy)]
 pub enum Choice {
     Is(Case),
     Refused(Refusal),

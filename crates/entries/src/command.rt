@@ -6,7 +6,7 @@ use crate::choice::Case;
 use crate::layout::number_in;
 
 // One command of five kinds. `failed` is the lost rotor, 0 to 3, or `NONE_LOST`.
-#[derive(Drop)]
+#[derive(Clone, Copy)]
 pub enum Command {
     Plain {
         thrust: f32,

@@ -49,7 +49,7 @@ pub extern "C" fn footspandle_sheet_body(sheet: &[u8], i: usize, at: &mut usize)
 }
 
 // What a run answers, as C is told it, and the state afterwards.
-#[derive(Drop)]
+#[derive(Clone, Copy)]
 struct RunResult {
     number: u32,
     state: QuadMixer,

@@ -26,7 +26,7 @@ pub const MAX_ROTORS: usize = 8;
 
 // The matrix, and how many rotors there are. The count is for the caller: the mix uses all eight rows, whatever it is.
 #[repr(C)]
-#[derive(Drop)]
+#[derive(Clone, Copy)]
 pub struct MixerN {
     pub mix: [f32; 32],
     pub n: usize,

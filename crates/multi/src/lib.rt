@@ -19,7 +19,7 @@ use rotors::rows::row_at;
 
 // What is asked of a frame: a collective thrust, and a torque about each axis.
 #[repr(C)]
-#[derive(Drop)]
+#[derive(Clone, Copy)]
 pub struct Wrench {
     pub thrust: f32,
     pub roll: f32,
@@ -28,7 +28,7 @@ pub struct Wrench {
 }
 
 // What `mix` answers.
-#[derive(Drop)]
+#[derive(Clone, Copy)]
 pub enum MixAnswer {
     // Number 0: the outputs are written.
     Mixed,

@@ -2,6 +2,9 @@
 // floor..1 (document 02, K6). Follows the rule of relay-mix-quad's `mix_thrust_floor` (Apache-2.0, see NOTICE), which
 // is for four; changed: written in Rattle with contracts, over lent rows of any count. What is done for one rotor is
 // the quad's code.
+
+#![tactic(auto)]
+
 ghost use Rattle.std.specs.Prelude.{◌≡◌, map, ◌*◌, ◌≤◌, length};
 ghost use Rattle.rules.specs.Rows.{rows_of, hex_rows, octo_rows};
 ghost use Rattle.rules.specs.Command.{deltas};
@@ -17,7 +20,7 @@ use rotors::rows::row_at;
 use thrust_floor::scaled_motor;
 
 // What `mix` answers.
-#[derive(Drop)]
+#[derive(Clone, Copy)]
 pub enum FloorAnswer {
     // Number 0: the outputs are written, and this is the scale that their torque was given at.
     Mixed(f32),
@@ -26,14 +29,14 @@ pub enum FloorAnswer {
 }
 
 // The motors of `hex_x`, and the scale that their torque was given at.
-#[derive(Drop)]
+#[derive(Clone, Copy)]
 pub struct Hex {
     pub motors: [f32; 6],
     pub scale: f32,
 }
 
 // The same of `octo_coax`.
-#[derive(Drop)]
+#[derive(Clone, Copy)]
 pub struct Octo {
     pub motors: [f32; 8],
     pub scale: f32,

@@ -18,14 +18,14 @@ const RECORD: usize = 16;
 const SHOWN: usize = 4;
 
 // How many operations were compared, and how many differences there are.
-#[derive(Drop)]
+#[derive(Clone, Copy)]
 pub(crate) struct Tally {
     pub(crate) compared: usize,
     pub(crate) differ: usize,
 }
 
 // An operation, its operands and the definition's answer.
-#[derive(Drop)]
+#[derive(Clone, Copy)]
 pub(crate) struct Record {
     pub(crate) operation: u32,
     pub(crate) x: u32,

@@ -18,7 +18,7 @@ ghost use Rattle.quad.specs.State.{state, fresh};
 // The last motors, the torque scale that the last thrust-floor or rotor-out recorded, which the other mixes leave as it
 // is, and the torque that the last motors give.
 #[repr(C)]
-#[derive(Drop)]
+#[derive(Clone, Copy)]
 pub struct QuadMixer {
     pub last_motors: [f32; 4],
     pub last_torque_scale: f32,

@@ -16,7 +16,7 @@ pub(crate) const ANSWERS: usize = WORDS;
 
 // What we answer, with zeros after the last word, and the quad's state after the record. No kind has the head where
 // `known` is false.
-#[derive(Drop)]
+#[derive(Clone, Copy)]
 pub(crate) struct Ours {
     pub(crate) known: bool,
     pub(crate) words: [u32; ANSWERS],

@@ -15,7 +15,7 @@ pub(crate) const ROOM: usize = 1048576;
 const SHOWN: usize = 4;
 
 // How many records were compared, and how many differences there are.
-#[derive(Drop)]
+#[derive(Clone, Copy)]
 pub(crate) struct Tally {
     pub(crate) compared: usize,
     pub(crate) differ: usize,
@@ -71,7 +71,7 @@ fn size_of(head: u32) -> usize
 }
 
 // Whether our answer is the Rust's, and the quad's state after the record.
-#[derive(Drop)]
+#[derive(Clone, Copy)]
 struct Seen {
     agrees: bool,
     state: QuadMixer,

@@ -72,7 +72,7 @@ fn placed(failed: usize, x: [f32; 3]) -> [f32; 4]
 
 // The two parts of each rotor's command: what gives three times the thrust and no moment, and what gives roll and pitch
 // and no thrust.
-#[derive(Drop)]
+#[derive(Clone, Copy)]
 struct Split {
     base: [f32; 4],
     delta: [f32; 4],

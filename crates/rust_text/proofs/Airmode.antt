@@ -1,6 +1,6 @@
 -- The Rust's `mix_airmode` is document 01's airmode, of every f32: its tests of the spread and of the scale change
 -- nothing. Assumes nothing.
-use mathlib.Core.Path.{◌≡◌, refl, ◌∙◌}
+use mathlib.Core.Path.{◌≡◌, refl, ap, ◌∙◌}
 use mathlib.Core.Bool.{Bool, true, false, not, ◌&&◌, ◌||◌, cond}
 use mathlib.Core.List.{List, [], ◌∷◌, map, map-map}
 use native.Mathlib.Omega.{arith}
@@ -26,6 +26,7 @@ use Rattle.rules.proofs.Clamp.{Floor, zero_floor, limited_floor, treated_finite}
 use Rattle.rust_text.specs.Forms.{◌!◌, ◌<f◌, ◌>f◌, for_each}
 use Rattle.rust_text.specs.State.{Quad, answered, store_motors}
 use Rattle.rust_text.specs.Airmode.{extremes, range_scale, shift_of, collective_added, shift_added, mix_airmode}
+use Rattle.rust_text.specs.Numbers.{clamp_floor}
 use Rattle.rust_text.proofs.Numbers.{sanitise_is, limited_is, clamp_floor_is}
 use Rattle.rust_text.proofs.Loops.{by_places}
 use Rattle.rust_text.proofs.ThrustFloor.{torque_deltas_are, four_deltas}
@@ -92,8 +93,10 @@ unfolding shift_added shifted
 shift_added_lem idle [] = refl
 shift_added_lem idle (x ∷ m) =
     let by = shift idle (least (x ∷ m)) (largest (x ∷ m)) in
-    rw (extremes_are x m, shift_is idle (least (x ∷ m)) (largest (x ∷ m)))
-    (map_same (λ y. clamp_floor_is (y +f by) idle) (x ∷ m))
+    let same : shift_of idle (extremes (x ∷ m)).0 (extremes (x ∷ m)).1 ≡ by =
+    rw (extremes_are x m) (shift_is idle (least (x ∷ m)) (largest (x ∷ m))) in
+    ap (λ (s : Float). map (λ y. clamp_floor (y +f s) idle) (x ∷ m)) same
+    ∙ map_same (λ y. clamp_floor_is (y +f by) idle) (x ∷ m)
 
 -- the least and the largest delta of the quad, and so the spread
 deltas_spread : (torque : List Float)

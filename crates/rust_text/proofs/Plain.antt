@@ -1,5 +1,5 @@
 -- The Rust's `mix` is document 01's plain. Assumes nothing.
-use mathlib.Core.Path.{◌≡◌, refl, ap, ap₂}
+use mathlib.Core.Path.{◌≡◌, refl, ap, ap₂, ◌∙◌}
 use mathlib.Core.Bool.{Bool, true, false, not, ◌||◌, cond}
 use mathlib.Core.List.{List, [], ◌∷◌, map}
 use lib.Ieee.{Float, lt}
@@ -38,8 +38,8 @@ pub excess_taken_lem : (m : List Float) → excess_taken m ≡ lowered m
 unfolding excess_taken largest_of lowered lowered_by best
 excess_taken_lem [] = mapped_if (lt 1f (largest_of [])) (λ v. v -f (largest_of [] -f 1f)) []
 excess_taken_lem (x ∷ xs) =
-    rw (walked_larger x xs)
-    (mapped_if (lt 1f (walked larger x xs)) (λ v. v -f (walked larger x xs -f 1f)) (x ∷ xs))
+    ap (λ (most : Float). cond (lt 1f most) (map (λ v. v -f (most -f 1f)) (x ∷ xs)) (x ∷ xs)) (walked_larger x xs)
+    ∙ mapped_if (lt 1f (walked larger x xs)) (λ v. v -f (walked larger x xs -f 1f)) (x ∷ xs)
 
 -- ---- the end
 

@@ -12,7 +12,7 @@ use entries::refusal::Refusal;
 
 // What a sheet is told: accepted, or why it is refused and at which entry. Refusals that are about no entry come with
 // 0.
-#[derive(Drop)]
+#[derive(Clone, Copy)]
 pub enum Verdict {
     Accepted,
     Refused(Refusal, u8),

@@ -3,6 +3,9 @@
 //
 // The state goes in by value and comes back. Where the sheet is refused nothing is written and the state is the one
 // that was given.
+
+#![tactic(auto)]
+
 ghost use Rattle.std.specs.Prelude.{◌≡◌, ◌*◌, ◌≤◌, length};
 ghost use Rattle.std.specs.Float.{binary32};
 ghost use Rattle.std.specs.Float.Ieee.{to_bits};
@@ -22,7 +25,7 @@ use sheet::{Verdict, check};
 use wire::write_u32;
 
 // What a run answers, and the state afterwards.
-#[derive(Drop)]
+#[derive(Clone, Copy)]
 pub struct Outcome {
     pub verdict: Verdict,
     pub state: QuadMixer,

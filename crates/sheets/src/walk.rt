@@ -7,7 +7,7 @@ use wire::read_u32;
 pub(crate) const ROOM: usize = 393216;
 
 // How many sheets were replayed, and how many differ.
-#[derive(Drop)]
+#[derive(Clone, Copy)]
 pub(crate) struct Tally {
     pub(crate) replayed: usize,
     pub(crate) differ: usize,

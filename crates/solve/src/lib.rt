@@ -12,7 +12,7 @@ ghost use Rattle.solve.specs.Solve.{element, determinant, singular, replaced, cr
 use number::{SMALL, is_finite};
 
 // What solve3 finds. Where nothing was solved, x holds three +0.
-#[derive(Drop)]
+#[derive(Clone, Copy)]
 pub struct Solution {
     pub solved: bool,
     pub x: [f32; 3],

@@ -19,7 +19,7 @@ pub fn scaled_motor(floor: f32, base: f32, s: f32, d: f32) -> f32
 }
 
 // The motors, and the scale that their torque was given at.
-#[derive(Drop)]
+#[derive(Clone, Copy)]
 pub struct MotorsAndScale {
     pub motors: [f32; 4],
     pub scale: f32,
