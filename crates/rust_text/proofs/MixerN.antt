@@ -22,8 +22,9 @@ use Rattle.rules.specs.Plain.{raw_sum, raw_sums, lower_limited}
 use Rattle.rules.specs.Frame.{max_rotors, frame_motors}
 use Rattle.rules.specs.Torque.{summed, torque_of, achieved}
 use Rattle.rules.proofs.Clamp.{treated_finite}
-use Rattle.rust_text.specs.Forms.{◌!◌, for_each, for_up_to, zip}
-use Rattle.rust_text.specs.Numbers.{sanitise}
+use Rattle.rust_text.specs.Forms.{◌!◌, for_each, for_up_to, zip, zip_into}
+use Rattle.rust_text.specs.Numbers.{sanitise, clamp01}
+use Rattle.rust_text.specs.Plain.{excess_taken}
 use Rattle.rust_text.specs.State.{MIXER_X}
 use Rattle.rust_text.specs.MixerN.{Mixer, new_n, quad_x, mix_n, achieved_wrench}
 use Rattle.rust_text.proofs.Numbers.{sanitise_is}
@@ -43,15 +44,31 @@ unfolding raw_sum
 sums_finite torque thrust =
     each_mapped (Finite binary32) (treated_sum torque thrust) (λ row. treated_finite _ (add-fits binary32 _ _))
 
+-- the steps of the mix, from the four numbers treated
+mix_steps : List Row → Float → Float → Float → Float → List Float
+unfolding raw_sum
+mix_steps rows t r p y =
+    map (λ v. clamp01 v) (excess_taken (zip_into (λ mi row. sanitise (raw_sum t r p y row)) (replicate 8 0f) rows))
+
+treated_steps : (self : Mixer) (torque : List Float) (thrust : Float)
+    → mix_n self torque thrust ≡ mix_steps self.rows (treated thrust) (roll torque) (pitch torque) (yaw torque)
+unfolding mix_n mix_steps raw_sum
+treated_steps self torque thrust =
+    ap (λ (t : Float). mix_steps self.rows t (sanitise (torque ! 0)) (sanitise (torque ! 1)) (sanitise (torque ! 2)))
+    (sanitise_is thrust)
+    ∙ ap (λ (r : Float). mix_steps self.rows (treated thrust) r (sanitise (torque ! 1)) (sanitise (torque ! 2)))
+    (sanitise_is (torque ! 0))
+    ∙ ap (λ (p : Float). mix_steps self.rows (treated thrust) (roll torque) p (sanitise (torque ! 2)))
+    (sanitise_is (torque ! 1))
+    ∙ ap (λ (y : Float). mix_steps self.rows (treated thrust) (roll torque) (pitch torque) y)
+    (sanitise_is (torque ! 2))
+
 pub mix_n_is : (self : Mixer) (torque : List Float) (thrust : Float) → length self.rows ≡ 8
     → mix_n self torque thrust ≡ frame_motors self.rows torque thrust
-unfolding mix_n frame_motors raw_sums raw_sum
+unfolding mix_steps frame_motors raw_sums raw_sum
 mix_n_is self torque thrust e =
-    rw (
-      sanitise_is thrust,
-      sanitise_is (torque ! 0),
-      sanitise_is (torque ! 1),
-      sanitise_is (torque ! 2),
+    treated_steps self torque thrust
+    ∙ rw (
       overwritten (λ row. sanitise (raw_sum (treated thrust) (roll torque) (pitch torque) (yaw torque) row))
           (replicate 8 0f) self.rows (sym e),
       map_same (λ row. sanitise_is (raw_sum (treated thrust) (roll torque) (pitch torque) (yaw torque) row))
