@@ -4,20 +4,20 @@ use Rattle.sheet_run.proofs.call.Goals as goal
 
 pub returns-in-Plain : goal.returns-in-Plain
 unfolding Gives
-returns-in-Plain c = rw c.c-1.given.1 c.mix.ensures
+returns-in-Plain c = rw c.in-Plain.is c.mix.ensures
 
 pub returns-in-ThrustFloor : goal.returns-in-ThrustFloor
 unfolding Gives
-returns-in-ThrustFloor c = rw c.c-in-ThrustFloor-1.given.1 c.mix_thrust_floor.ensures
+returns-in-ThrustFloor c = rw c.in-ThrustFloor.is c.mix_thrust_floor.ensures
 
 pub returns-in-Priority : goal.returns-in-Priority
 unfolding Gives
-returns-in-Priority c = rw c.c-in-Priority-1.given.1 c.mix_priority.ensures
+returns-in-Priority c = rw c.in-Priority.is c.mix_priority.ensures
 
 pub returns-in-Airmode : goal.returns-in-Airmode
 unfolding Gives
-returns-in-Airmode c = rw c.c-in-Airmode-1.given.1 c.mix_airmode.ensures
+returns-in-Airmode c = rw c.in-Airmode.is c.mix_airmode.ensures
 
 pub returns-in-RotorOut : goal.returns-in-RotorOut
 unfolding Gives
-returns-in-RotorOut c = rw c.c-in-RotorOut-1.given.1 c.mix_rotor_out.ensures
+returns-in-RotorOut c = rw c.in-RotorOut.is c.mix_rotor_out.ensures

@@ -5,17 +5,13 @@ use lib.ListN.{length}
 use borrow.Author.Rules.{rules}
 use Rattle.sheet_run.proofs.AnswerBytes.{five_written}
 use Rattle.sheet_run.proofs.write_answer.Goals as goal
-use Rattle.sheet_run.proofs.write_answer.Tie as at
-
--- the state's motors are an array of four
-count : (start : at.Start) → length start.args.q.last_motors ≡ 4
-count start = search rules
 
 pub returns : goal.returns
 returns c =
+    let count : length c.args.q.last_motors ≡ 4 = search rules in
     let is = c.last_motors-m.ensures in
     five_written c.args.out.now c.args.q.last_motors c.args.q.last_torque_scale
-    (count c) c.requires
+    count c.requires
     (rw is at c.write_float.ensures)
     (rw is at c.write_float-2.ensures)
     (rw is at c.write_float-3.ensures)
