@@ -8,6 +8,9 @@
 // The contracts take for granted what a reference is in Rattle, and a caller in C owes it: a pointer that is aligned
 // and not null, also where a length of 0 goes with it, to as many elements as the parameter's type or the length says;
 // and what is written through one pointer is reached through no other of the same call.
+
+#![tactic(auto)]
+
 mod command_sheet;
 mod mixer_n;
 mod multi_floor;

@@ -1,6 +1,9 @@
 // Inner functions, exported for comparison alone (compare/). Each passes on what one function of a crate under it
 // gives, and its contract says the same. It is no interface for an autopilot: what is one, and is compared too, is in
 // `exported`.
+
+#![tactic(auto)]
+
 ghost use Rattle.std.specs.Prelude.{◌≡◌};
 ghost use Rattle.std.specs.Float.{binary32};
 ghost use Rattle.std.specs.Float.Ieee.{is_nan, of_bits, to_bits};

@@ -1,4 +1,7 @@
 // What `mixrun` prints for a sheet, as bytes: the whole program but for reading and writing.
+
+#![tactic(auto)]
+
 ghost use Rattle.lines.specs.Lines.{Written};
 ghost use Rattle.report.specs.Report.{printed};
 

@@ -13,9 +13,8 @@ use Rattle.exported.proofs.quad_mixer.footspandle_quad32_mix_thrust_floor.Statem
 use Rattle.exported.proofs.quad_mixer.footspandle_quad32_mix_thrust_floor.Code as code
 
 pub footspandle_quad32_mix_thrust_floor_spec : {M : Type 1} → stated.statement M
-unfolding code.routine
-footspandle_quad32_mix_thrust_floor_spec 𝓤 𝓛 𝓜 𝓡 =
-    lends Q.the_type Q'.the_laws 𝓛 𝓜 𝓡 with_floor f-key.name g-def.name code.env
-    (code.unfolded 𝓤 𝓛.H 𝓜 𝓡) g-def.routine code.calls-exported::quad-mixer::after-thrust-floor
-    (g.clauses 𝓛 𝓜.mem 𝓡.run) (f.clauses 𝓛 𝓜.mem 𝓡.run) _ (λ κs h a. tt)
-    (λ κs h a. refl) (λ κs h a r e. refl) (λ κs x a g ws r. refl) (g-thm.met 𝓤 𝓛 𝓜 𝓡)
+footspandle_quad32_mix_thrust_floor_spec 𝓤 𝓛 𝓜 𝓡 wired =
+    lends Q.the_type Q'.the_laws 𝓛 𝓜 𝓡 with_floor f-key.name g-def.name 𝓡.env
+    (code.unfolded 𝓤 𝓛.H 𝓜 𝓡 wired) (𝓡.env g-def.name) refl
+    (g.clauses 𝓛 𝓜.mem 𝓡.returns) (f.clauses 𝓛 𝓜.mem 𝓡.returns) _ (λ κs h a. tt)
+    (λ κs h a. refl) (λ κs h a r e. refl) (λ κs x a g ws r. refl) (g-thm.met 𝓤 𝓛 𝓜 𝓡 (code.calls-exported::quad_mixer::after_thrust_floor 𝓡.env wired))

@@ -12,9 +12,8 @@ use Rattle.exported.proofs.quad_mixer.footspandle_quad32_new.Statement as stated
 use Rattle.exported.proofs.quad_mixer.footspandle_quad32_new.Code as code
 
 pub footspandle_quad32_new_spec : {M : Type 1} → stated.statement M
-unfolding code.routine
-footspandle_quad32_new_spec 𝓤 𝓛 𝓜 𝓡 =
-    makes Q.the_type Q'.the_laws 𝓛 𝓜 𝓡 f-key.name g-def.name code.env
-    (code.unfolded 𝓤 𝓛.H 𝓜 𝓡) g-def.routine code.calls-quad::QuadMixer::new
-    (g.clauses 𝓛 𝓜.mem 𝓡.run) (f.clauses 𝓛 𝓜.mem 𝓡.run) _ tt
-    refl (λ r e. refl) (λ κs x a g ws r. refl) (g-thm.met 𝓤 𝓛 𝓜 𝓡)
+footspandle_quad32_new_spec 𝓤 𝓛 𝓜 𝓡 wired =
+    makes Q.the_type Q'.the_laws 𝓛 𝓜 𝓡 f-key.name g-def.name 𝓡.env
+    (code.unfolded 𝓤 𝓛.H 𝓜 𝓡 wired) (𝓡.env g-def.name) refl
+    (g.clauses 𝓛 𝓜.mem 𝓡.returns) (f.clauses 𝓛 𝓜.mem 𝓡.returns) _ tt
+    refl (λ r e. refl) (λ κs x a g ws r. refl) (g-thm.met 𝓤 𝓛 𝓜 𝓡 (code.calls-quad::QuadMixer::new 𝓡.env wired))
