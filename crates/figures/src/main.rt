@@ -3,6 +3,9 @@
 // after the four motors stands the recorded scale; of `quad_x` the first four motors are shown, as the document has
 // them, and in figure 15 all eight. Last come the lines of the document's three command sheets. The file stdout has
 // what the document says they all are.
+
+#![tactic(auto)]
+
 mod show;
 mod three_sheets;
 

@@ -5,9 +5,17 @@
 // and writes, over the C library's two calls, which are all that is assumed. Reading stops at the end or at an error,
 // and the bytes until then are the sheet. An output that cannot be written ends the program, and a pipe that nobody
 // reads any more ends it by the system's signal.
-use libc::{STDIN_FILENO, STDOUT_FILENO};
+
+#![tactic(auto)]
+
 use lines::TEXT;
 use report::text_of;
+
+// The number of standard input.
+const STDIN_FILENO: i32 = 0;
+
+// The number of standard output.
+const STDOUT_FILENO: i32 = 1;
 
 fn main() {
     let mut input = [0u8; 2048];

@@ -10,12 +10,17 @@
 // agrees with any other. An operand that is a NaN of any bits is read as the one NaN (`float_of`). An operation of
 // another number counts as a difference, and so does a list that is not as many whole records as it says: what is not
 // read never passes.
+
+#![tactic(auto)]
+
 mod list;
 mod operate;
 mod show;
 
-use libc::STDIN_FILENO;
 use list::ROOM;
+
+// The number of standard input.
+const STDIN_FILENO: i32 = 0;
 
 fn main() {
     let mut space = [0; ROOM];

@@ -1,6 +1,8 @@
 // What is printed.
 use crate::list::{Record, Tally};
-use libc::STDOUT_FILENO;
+
+// The number of standard output.
+const STDOUT_FILENO: i32 = 1;
 
 pub(crate) fn print_tally(tally: Tally) {
     print_number(tally.compared);

@@ -34,6 +34,9 @@
 // A float is written as its bits, and an answer that is a NaN as 7fc00000, just as `bits_of` writes ours, so any NaN
 // agrees with any other. A truth is 1 or 0. A head that no file has counts as a difference, and so does a list that is
 // not as many whole records as it says: what is not read never passes.
+
+#![tactic(auto)]
+
 mod answers;
 mod floors;
 mod frames;
@@ -41,8 +44,10 @@ mod list;
 mod mixes;
 mod show;
 
-use libc::STDIN_FILENO;
 use list::ROOM;
+
+// The number of standard input.
+const STDIN_FILENO: i32 = 0;
 
 fn main() {
     let mut space = [0; ROOM];

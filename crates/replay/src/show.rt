@@ -1,7 +1,9 @@
 // What is printed.
 use crate::answers::{ANSWERS, Ours};
 use crate::list::Tally;
-use libc::STDOUT_FILENO;
+
+// The number of standard output.
+const STDOUT_FILENO: i32 = 1;
 
 pub(crate) fn print_tally(tally: Tally) {
     print_number(tally.compared);

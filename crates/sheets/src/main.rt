@@ -4,11 +4,19 @@
 //
 // Compared are the number and the entry number, every byte of the output, the state afterwards, the body of one entry,
 // and of some records the text that `mixrun` prints. record.rt has the layout of a record.
+
+#![tactic(auto)]
+
 mod record;
 mod walk;
 
-use libc::{STDIN_FILENO, STDOUT_FILENO};
 use walk::{ROOM, replay};
+
+// The number of standard input.
+const STDIN_FILENO: i32 = 0;
+
+// The number of standard output.
+const STDOUT_FILENO: i32 = 1;
 
 fn main() {
     let mut list = [0u8; ROOM];
