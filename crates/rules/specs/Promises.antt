@@ -1,7 +1,7 @@
 -- What the mixes promise of their motors (demand 3, whose text is in docs/STATEMENT.md, and document 01's claims on
 -- plain and on any airframe), in words that each is said in once. Here `motors` and `scale` are what a function
 -- answers, and a frame is any list of rows. Definitions only; the quotations are demand 3's and document 01's.
-use Rattle.std.specs.Prelude.{◌≡◌, true, false, not, List, [], ◌∷◌, map, ℕ, ◌<◌, T, length, get_or, take, Float}
+use Rattle.std.specs.Prelude.{◌≡◌, true, false, not, List, map, ℕ, ◌<◌, T, length, get_or, take, Float}
 use Rattle.std.specs.Float.{nan, inf, binary32}
 use Rattle.std.specs.Float.Ieee.{lt, le, eq, is_nan, of_bits}
 use Rattle.binary32.specs.Arithmetic.{◌+f◌, 0f, 1f}

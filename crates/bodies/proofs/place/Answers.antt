@@ -1,9 +1,7 @@
 -- `bodies::place` meets its contract: of an accepted sheet and one of its entries the body's offset and size, else an
 -- empty part. Assumes nothing.
-use mathlib.Core.Path.{◌≡◌, sym}
-use Rattle.refusals.specs.Numbers.{accepted}
+use mathlib.Core.Path.{sym}
 use Rattle.entries.proofs.Chosen.{never_accepted}
-use Rattle.sheet.specs.Table.{judged}
 use Rattle.sheet.proofs.Verdicts.{accepted_number, refused_number}
 use Rattle.bodies.proofs.Bodies.{none_of_refused, none_past, body_under, none_placed, body_placed}
 use Rattle.bodies.proofs.place.Goals as goal

@@ -1,11 +1,7 @@
 -- `sheet::check` meets its contract: each test of the head is a line of the table, and what is left is told by the
 -- entries. Assumes nothing.
-use mathlib.Core.Path.{◌≡◌, sym, ◌∙◌}
-use Prim.Native.Nat.{◌≤◌}
-use lib.ListN.{length}
+use mathlib.Core.Path.{sym, ◌∙◌}
 use Rattle.entries.specs.declared.refusal.Refusal.TheVariants.{TooShort, BadVersion, TooMany, BadLength}
-use Rattle.entries.specs.Layout.{version_of, count_of, length_field}
-use Rattle.sheet.specs.Table.{max_entries}
 use Rattle.sheet.proofs.Head.{told_of_head, told_of_entries, too_short_lem, bad_version_lem}
 use Rattle.sheet.proofs.Head.{too_many_lem, length_differs, contents_cut, head_passes}
 use Rattle.sheet.proofs.check.Goals as goal

@@ -1,7 +1,7 @@
 -- `sheet::check_entries` meets its contract. The invariant: `end` is where the body of entry i has to begin, and what
 -- is told of the entries from i on is what is told of all. Assumes nothing.
 use mathlib.Core.Path.{◌≡◌, sym, ap, ap₂, ◌∙◌}
-use Prim.Native.Nat.{◌+◌, ◌-◌, ◌≤◌}
+use Prim.Native.Nat.{◌+◌, ◌≤◌}
 use native.Mathlib.Omega.{arith}
 use lib.ListN.{length}
 use Rattle.entries.specs.Layout.{count_of, body_size, body_at}

@@ -1,8 +1,6 @@
 -- `sheet_run::judge` meets its contract: a refused sheet stays refused, and of an accepted one the output's length
 -- decides. Assumes nothing.
-use mathlib.Core.Path.{◌≡◌, sym}
-use Rattle.refusals.specs.Numbers.{accepted}
-use Rattle.sheet.specs.Table.{judged}
+use mathlib.Core.Path.{sym}
 use Rattle.sheet.proofs.Verdicts.{accepted_number}
 use Rattle.sheet_run.proofs.Judged.{refused_before, output_short, output_fits}
 use Rattle.sheet_run.proofs.judge.Goals as goal
