@@ -91,7 +91,8 @@ pub record PriorityKeeps (rows : List Row) (torque : List Float) (thrust floor :
   -- so each motor is a nearest f32 to (collective plus roll/pitch, rounded) plus yaw, exactly
   pub nearest : AllFitBothOrders rows torque thrust floor
       → (i : ℕ) → i < length rows
-      → SumRounded (roll_pitch_sum torque thrust floor (get_or rows i no_row)) (yaw_group (yaw torque) (get_or rows i no_row))
+      → SumRounded (roll_pitch_sum torque thrust floor (get_or rows i no_row))
+      (yaw_group (yaw torque) (get_or rows i no_row))
       (get_or motors i nan)
 
 pub record AirmodeKeeps (rows : List Row) (torque : List Float) (thrust idle : Float) (motors : List Float)

@@ -13,9 +13,11 @@ returns-in_default c =
 
 pub returns-then-i-count : goal.returns-then-i-count
 returns-then-i-count c =
-    sym (none_placed _ _ (none_past _ _ (accepted_number c.check.ensures c.in-Accepted.is) (rw c.count.ensures at c.if-i-count.true)))
+    sym (none_placed _ _ (none_past _ _ (accepted_number c.check.ensures c.in-Accepted.is)
+        (rw c.count.ensures at c.if-i-count.true)))
 
 pub returns : goal.returns
 returns c =
     rw (c.body_size.ensures, c.kind.ensures, c.offset.ensures)
-    (sym (body_placed _ _ (body_under _ _ (accepted_number c.check.ensures c.in-Accepted.is) (rw c.count.ensures at c.if-i-count.false))))
+    (sym (body_placed _ _
+        (body_under _ _ (accepted_number c.check.ensures c.in-Accepted.is) (rw c.count.ensures at c.if-i-count.false))))
