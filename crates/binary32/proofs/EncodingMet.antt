@@ -1,5 +1,6 @@
 -- What the kit reads from a bit pattern, `of_bits`, is what the rows of IEEE 754-2019, 3.4, say that it encodes, for
--- every pattern of the format's width, and they say it of no other value. What the kit writes for a value, `to_bits`, is
+-- every pattern of the format's width, and they say it of no other value. What the kit writes for a value, `to_bits`,
+-- is
 -- a pattern that encodes it, the only one unless it is a NaN (specs/Encoding.antt). So the exponent's field of a
 -- pattern tells whether the value is finite, and how large it is at most. In either format. Assumes nothing.
 use mathlib.Core.Path.{◌≡◌, refl, sym, ap, ◌∙◌, subst}
@@ -120,7 +121,8 @@ value_determined : {f : Format} {s : Bool} {n : ℕ} {x y : Float} → Value f s
 value_determined {f} a b =
     same_number (finite_number (is_finite a.held a.number)) (finite_number (is_finite b.held b.number))
     (a.sign ∙ sym b.sign)
-    (eq_of_mul-eq-mul_right (2 ^ bias f * 2 ^ trailing_width f) (mul-pos (pow_pos (bias f)) (pow_pos (trailing_width f)))
+    (eq_of_mul-eq-mul_right (2 ^ bias f * 2 ^ trailing_width f)
+    (mul-pos (pow_pos (bias f)) (pow_pos (trailing_width f)))
     _ _ (a.size ∙ sym b.size))
 
 -- two values that a pattern encodes are one
@@ -201,7 +203,8 @@ exponent_size {f} b {x} v k h l =
     (λ e t. over_all e)
     (λ e t. over_all e)
     (λ p q.
-    let powers : 2 ^ exponent_field f b * (2 ^ trailing_width f + trailing_field f b) ≤ 2 ^ k * (2 ^ trailing_width f * 2) =
+    let powers : 2 ^ exponent_field f b * (2 ^ trailing_width f + trailing_field f b) ≤ 2 ^ k *
+    (2 ^ trailing_width f * 2) =
     le_trans (mul-le-mul_right (2 ^ trailing_width f + trailing_field f b) (pow_mono h))
     (mul-le-mul_left (2 ^ k) (omega (arith, trailing_in f b))) in
     halve (le_trans (le_of_eq (value_size (v.normal p q))) powers))

@@ -57,7 +57,8 @@ more_digits n j h = go (dec_le (size n) j)
     go (yes few) = omega (arith, size-lt n, pow_mono few)
     go (no many) = omega arith
 
-digits_less : (f : Format) (q k : ℕ) → q < 2 ^ prec f → (0 < k → 2 ^ (prec f - 1) ≤ q) → last_digit f (q * 2 ^ k) ≡ q % 2
+digits_less : (f : Format) (q k : ℕ) → q < 2 ^ prec f → (0 < k → 2 ^ (prec f - 1) ≤ q) → last_digit f (q * 2 ^ k)
+    ≡ q % 2
 unfolding last_digit
 digits_less f q k few full =
     let p = prec f in

@@ -50,7 +50,8 @@ below_sign binary32 = (31, refl)
 below_sign binary64 = (63, refl)
 
 -- the bits of x under its sign's bit are read as the absolute value of x
-pub masked_absolute : (f : Format) (x : Float) → T (fits f x) → of_bits f (bit_and (to_bits f x) (top f - 1)) ≡ absolute x
+pub masked_absolute : (f : Format) (x : Float) → T (fits f x) → of_bits f (bit_and (to_bits f x) (top f - 1))
+    ≡ absolute x
 masked_absolute f x h =
     let k = (below_sign f).0 in
     let e = (below_sign f).1 in

@@ -71,7 +71,8 @@ module _ {f : Format} {z : Float} {p n c : ℕ} (r : Rounded f z p n c) (C : 0 <
     within_half = half_unit h.finite delivered C
 
     -- a fact about integers, said of the pair
-    in_pair : (P : ℕ → ℕ → Type 0) → P (nat_abs (sub_ℕ p n)) (distance f (sub_ℕ p n) c z) → P (gap p n) (apart f z p n c)
+    in_pair : (P : ℕ → ℕ → Type 0) → P (nat_abs (sub_ℕ p n)) (distance f (sub_ℕ p n) c z)
+        → P (gap p n) (apart f z p n c)
     in_pair P = subst₂ P (size_of (difference p n)) (distance_apart f z c (difference p n))
 
     half_place : (k : ℕ) → gap p n ≤ 2 ^ (prec f + k) * c → 2 * apart f z p n c ≤ 2 ^ k * c

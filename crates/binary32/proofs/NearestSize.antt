@@ -128,7 +128,8 @@ module _ (f : Format) (a c w k r : ℕ) (C : 0 < c) (full : 0 < k → 2 ^ (prec 
       subst (λ (n : ℕ). NearestSize f a c (n * 2 ^ k)) (sym one) (upper (omega arith) (λ t. omega arith))
 
   nearest_taken : (o : Ordering) → compare (r * 2) (2 ^ k * c) ≡ o → NearestSize f a c (nearest w o * 2 ^ k)
-  nearest_taken Ordering.lt e = lower (leb-true _ _ (ap is_le e)) (λ tie. absurd (eqb-false _ _ (ap compare_is_eq e) tie))
+  nearest_taken Ordering.lt e =
+      lower (leb-true _ _ (ap is_le e)) (λ tie. absurd (eqb-false _ _ (ap compare_is_eq e) tie))
   nearest_taken Ordering.eq e = even_one (w % 2) refl (eqb-true _ _ (ap compare_is_eq e))
   nearest_taken Ordering.gt e =
       let more : 2 ^ k * c < r * 2 = leb-false _ _ (ap is_le e) in

@@ -11,9 +11,9 @@ use borrow.Author.Tests.{ltb-true, ltb-false, ne_eqb}
 use lib.Dec.{ltb}
 use lib.Pow.{pow_pos}
 use lib.IntN.{ℤ}
-use lib.Ieee.{Float, nan, inf, fin, Format, low, up, down, fits, is_nan, round, sum, neg, add, sub, mul, div, unlike}
+use lib.Ieee.{Float, nan, inf, fin, Format, low, up, down, is_nan, round, sum, neg, add, sub, mul, div, unlike}
 use lib.Ieee.Fits.{up_pos, down_pos, neg-fits}
-use lib.Ieee.Scale.{finite, round_same}
+use lib.Ieee.Scale.{round_same}
 use Rattle.binary32.specs.Whole.{negative, magnitude, over, under}
 use Rattle.binary32.proofs.Magnitude.{Number, Finite, by_finite, by_finite₂}
 use Rattle.binary32.proofs.Magnitude.{magnitude_exact, magnitude_scaled, magnitude_zero}

@@ -1,13 +1,13 @@
 -- A sum of numbers that lie far under the overflow bound is finite: the sizes add up, and rounding carries none of them
 -- past a power of two, which is a value of the format. In either format. Assumes nothing.
-use mathlib.Core.Path.{◌≡◌, refl, sym, ap, ◌∙◌, subst}
+use mathlib.Core.Path.{◌≡◌, refl, sym, subst}
 use mathlib.Core.Bool.{Bool, true, false}
-use Prim.Native.Nat.{ℕ, suc, ◌+◌, ◌-◌, ◌*◌, ◌^◌, ◌≤◌, ◌<◌}
+use Prim.Native.Nat.{ℕ, suc, ◌-◌, ◌^◌, ◌≤◌, ◌<◌}
 use native.Mathlib.Nat.{one-mul, le_trans, le_of_eq, lt_of_le_of_lt}
 use native.Mathlib.Omega.{arith}
 use lib.Dec.{lit<}
 use lib.Pow.{pow_pos}
-use lib.Ieee.{Float, Format, binary32, binary64, prec, add, mul, neg}
+use lib.Ieee.{Float, Format, binary32, binary64, add, mul, neg}
 use lib.Ieee.Scale.{overflow}
 use Rattle.binary32.specs.Whole.{negative, magnitude, over, under}
 use Rattle.binary32.proofs.Magnitude.{Finite, under_finite}

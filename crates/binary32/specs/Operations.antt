@@ -19,7 +19,8 @@ pub record Addition (f : Format) (x y z : Float) : Type 0 where
   -- 4.3.1: the exact sum is rounded
   pub rounded : T (finite x) → T (finite y) → RoundsTo f (whole_of f x +ℤ whole_of f y) 1 z
   -- 6.3: a sum that is exactly zero is +0, but -0 where both are negative
-  pub zero : T (finite x) → T (finite y) → whole_of f x +ℤ whole_of f y ≡ pos 0 → negative z ≡ (negative x && negative y)
+  pub zero : T (finite x) → T (finite y) → whole_of f x +ℤ whole_of f y ≡ pos 0 → negative z
+      ≡ (negative x && negative y)
   -- 6.1: an infinity plus a finite number, or plus itself, is that infinity
   pub infinite_first : (s : Bool) → x ≡ inf s → T (finite y) → z ≡ inf s
   pub infinite_second : (s : Bool) → T (finite x) → y ≡ inf s → z ≡ inf s

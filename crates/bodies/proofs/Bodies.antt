@@ -61,7 +61,8 @@ unfoldable pub bodies_from : List ℕ → ℕ → ℕ → List ℕ
 bodies_from s i zero = []
 bodies_from s i (suc left) = body_of s i ++ bodies_from s (suc i) left
 
-rest_tiled : (s : List ℕ) → Accepted s → (left i : ℕ) → i + left ≡ count_of s → drop (body_at s i) s ≡ bodies_from s i left
+rest_tiled : (s : List ℕ) → Accepted s → (left i : ℕ) → i + left ≡ count_of s → drop (body_at s i) s
+    ≡ bodies_from s i left
 unfolding bodies_from body_of
 rest_tiled s known zero i e =
     drop_of_length-le s {i = body_at s i}

@@ -20,7 +20,8 @@ command_of (RotorOutCase failed) t r p y floor = RotorOut failed t r p y floor
 
 -- of the numbers that stand in the body of entry i
 unfoldable pub command_with : List ℕ → ℕ → Case → Command
-command_with s i c = command_of c (number_in s i 0) (number_in s i 1) (number_in s i 2) (number_in s i 3) (number_in s i 4)
+command_with s i c = command_of c (number_in s i 0) (number_in s i 1) (number_in s i 2) (number_in s i 3)
+    (number_in s i 4)
 
 -- the command of entry i, where it has one
 unfoldable pub command_at : List ℕ → ℕ → Command

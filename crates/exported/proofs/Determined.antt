@@ -81,7 +81,8 @@ module _ (rows torque motors : List Float) (thrust : Float) (count n m : ℕ) (m
   pub mixer_n_n_determined : Determined (λ r. r ≡ (passed mix n).n)
   mixer_n_n_determined = equal_determined
 
-  pub mixer_n_quad_x_determined : passed mix n ≡ made (run_of quad_x_rows) 4 → passed other m ≡ made (run_of quad_x_rows) 4
+  pub mixer_n_quad_x_determined : passed mix n ≡ made (run_of quad_x_rows) 4 → passed other m
+      ≡ made (run_of quad_x_rows) 4
       → (n ≡ m) × (mix ≡ other)
   mixer_n_quad_x_determined = passed_determined (made (run_of quad_x_rows) 4) n m mix other
 

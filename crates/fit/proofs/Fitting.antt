@@ -9,7 +9,6 @@ use lib.Dec.{T}
 use lib.ListN.{get_or}
 use lib.Ieee.{Float, nan, binary32, fits, lt, neg, of_bits}
 use lib.Ieee.Bits.{of_bits-fits}
-use lib.Ieee.Scale.{finite}
 use Rattle.binary32.specs.Arithmetic.{◌-f◌, ◌/f◌, 1f, small}
 use Rattle.binary32.specs.Whole.{negative, under}
 use Rattle.binary32.specs.Range.{SumWithin}

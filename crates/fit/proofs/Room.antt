@@ -9,7 +9,6 @@ use native.Mathlib.Nat.{mul-one, zero-mul, mul_comm, mul-le-mul_right}
 use native.Mathlib.Omega.{arith}
 use lib.Pow.{pow_pos}
 use lib.Ieee.{Float, nan, inf, fin, Format, low, is_nan, lt, sub, div}
-use lib.Ieee.Scale.{finite}
 use Rattle.binary32.specs.Whole.{negative, magnitude, over, under}
 use Rattle.binary32.proofs.Magnitude.{Finite, finite_number}
 use Rattle.binary32.proofs.Comparison.{units_le, not_over}

@@ -49,7 +49,8 @@ module _ {A : Type 0} (g : A → A) (before : List A) where
       → set now i a ≡ filled before (map g before) (i + 1)
   fill_in_place now i d h is belongs =
       let read : get_or now i d ≡ get_or before i d =
-      ap (λ (l : List A). get_or l i d) is ∙ filled_at before (map g before) i d h (omega (arith, length-map before g)) in
+      ap (λ (l : List A). get_or l i d) is
+      ∙ filled_at before (map g before) i d h (omega (arith, length-map before g)) in
       fill before (map g before) now i d (length-map before g) h is
       (belongs ∙ ap g read ∙ sym (map_at g d d before i h))
 

@@ -26,7 +26,8 @@ decimal_few (suc j) (suc k) n h =
     let held : n < 10 * 10 ^ suc j = rw pow-succ' at h in
     rw length-append (omega (arith, go (ltb n 10) (decimal_few j k (n / 10) (omega arith))))
   where
-    go : (t : Bool) → length (decimal_within k (n / 10)) ≤ suc j → length (cond t [] (decimal_within k (n / 10))) ≤ suc j
+    go : (t : Bool) → length (decimal_within k (n / 10)) ≤ suc j
+        → length (cond t [] (decimal_within k (n / 10))) ≤ suc j
     go true r = omega arith
     go false r = r
 

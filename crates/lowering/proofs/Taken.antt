@@ -39,7 +39,8 @@ nothing_taken (fin s m e) h =
     same_rounded (by_difference (sub_rounded hx zero_finite) _ _ (omega (arith, zero_over, zero_under)))
     (own_rounding hx) (sign_kept x)
 
-pub excess_taken_lem : (most x : Float) → T (fits binary32 x) → x -f cond (lt 1f most) (most -f 1f) 0f ≡ lowered_by most x
+pub excess_taken_lem : (most x : Float) → T (fits binary32 x) → x -f cond (lt 1f most) (most -f 1f) 0f
+    ≡ lowered_by most x
 unfolding lowered_by
 excess_taken_lem most x h = go (lt 1f most)
   where

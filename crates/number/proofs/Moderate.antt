@@ -1,6 +1,5 @@
 -- Moderate numbers are at most 2 ^ 274 units in size, and the sum of three numbers that are no larger is finite: it is
 -- at most 2 ^ 276, and the overflow bound is 2 ^ 277. Assumes nothing.
-use mathlib.Core.Path.{◌≡◌}
 use Prim.Native.Nat.{◌<◌}
 use native.Mathlib.Omega.{arith}
 use lib.Dec.{T, ltb, lit<, ltb→lt}

@@ -1,7 +1,7 @@
 -- The stored sums are those of the motors (document 02, K7): in a fresh state, after any mix whatever the state before
 -- was, and so in every state that is reached by calls which keep it so. After a mix none of them is a NaN. Assumes
 -- nothing.
-use mathlib.Core.Path.{◌≡◌, refl, sym, subst}
+use mathlib.Core.Path.{refl, sym, subst}
 use lib.Dec.{T}
 use lib.Ieee.{Float, binary32, fits, add, mul, of_bits}
 use Rattle.general.specs.Each.{Each}

@@ -28,7 +28,8 @@ no_entries = refl
 -- `01 41 04 00` prints `refused 3 at 0`
 too_many : printed (0x01 ∷ 0x41 ∷ 0x04 ∷ 0x00 ∷ [])
     ≡ 114 ∷ 101 ∷ 102 ∷ 117 ∷ 115 ∷ 101 ∷ 100 ∷ 32 ∷ 51 ∷ 32 ∷ 97 ∷ 116 ∷ 32 ∷ 48 ∷ 10 ∷ []
-unfolding printed judged_for judged head_number first at_entry read_at little_endian refused_line decimal_of decimal_within
+unfolding printed judged_for judged head_number first at_entry read_at little_endian refused_line decimal_of
+    decimal_within
 too_many = refl
 
 -- the sheet of one thrust-floor entry prints `0 1 3e800000 3e800000 3f400000 3f400000 3f000000`
@@ -52,9 +53,9 @@ half = 32 ∷ 51 ∷ 102 ∷ 48 ∷ 48 ∷ 48 ∷ 48 ∷ 48 ∷ 48 ∷ []
 one_entry : printed (before_body ++ body)
     ≡ (48 ∷ 32 ∷ 49 ∷ []) ++ quarter ++ quarter ++ three_quarters ++ three_quarters ++ half ++ (10 ∷ [])
 unfolding before_body body quarter three_quarters half add sub mul div neg lt le eq of_bits to_bits treated clamped
-    limited floor_clamp little_endian bytes_of read_at limits motor_limit tightened walk settled fit_scale quad_rows lifted
-    delta deltas one_scale scaled_motor scaled_motors thrust_floor_scale thrust_floor_motors first at_entry body_size body_at
-    number_in failed_of case_of command_of command_with command_at choice_number entry_number head_number end_number entries_told
-    judged called commands_from float_bytes answers_of judged_for hex_of decimal_within decimal_of word_at line_of lines_from
-    lines_of printed
+    limited floor_clamp little_endian bytes_of read_at limits motor_limit tightened walk settled fit_scale quad_rows
+    lifted delta deltas one_scale scaled_motor scaled_motors thrust_floor_scale thrust_floor_motors first at_entry
+    body_size body_at number_in failed_of case_of command_of command_with command_at choice_number entry_number
+    head_number end_number entries_told judged called commands_from float_bytes answers_of judged_for hex_of
+    decimal_within decimal_of word_at line_of lines_from lines_of printed
 one_entry = refl

@@ -151,7 +151,8 @@ fn motors_without(failed: usize, floor: f32, b: [f32; 4], d: [f32; 4]) -> [f32; 
 
 fn allotted(failed: usize, floor: f32, t: f32, r: f32, p: f32) -> [f32; 4]
     requires { T (finite floor) }
-    ensures { result ≡ cond (ltb failed 4) (motors_without failed floor (base_without failed t) (delta_without failed r p))
+    ensures { result ≡ cond (ltb failed 4)
+        (motors_without failed floor (base_without failed t) (delta_without failed r p))
         (map (tilt_motor floor t r p) quad_rows) }
 {
     if failed >= 4 {

@@ -142,7 +142,8 @@ rotors_fit : (c : Command) → T (rotors_test c) → FitsEach c
 unfolding rotors_test sums_at deltas quad_rows
 rotors_fit c t =
     let At : Row → Type 0 = λ row. Each (InRange c) (sums_at c row) in
-    let each = each_passes At _ (λ row. each_passes (InRange c) (range_test c) (in_range c) (sums_at c row)) quad_rows t in
+    let each = each_passes At _ (λ row. each_passes (InRange c) (range_test c) (in_range c) (sums_at c row)) quad_rows
+    t in
     record {
       thrust_floor = each_map At (SumWithin (limited (floor c)) 1f (base c)) (whole c) (λ row w. w.0) quad_rows each;
       airmode =
@@ -154,8 +155,9 @@ rotors_fit c t =
     }
 
 they_fit : Each FitsEach commands
-unfolding commands between_numbers at_the_ends all_true range_test rotors_test sums_at add mul neg lt of_bits exact_sum
-    whole_of over under negative magnitude treated clamped limited lifted quad_rows delta yaw_group roll_pitch_group
+unfolding commands between_numbers at_the_ends all_true range_test rotors_test sums_at add mul neg lt of_bits
+    exact_sum whole_of over under negative magnitude treated clamped limited lifted quad_rows delta yaw_group
+    roll_pitch_group
 they_fit = each_passes FitsEach rotors_test rotors_fit commands tt
 
 -- ---- the second reaches both ends of the range
@@ -184,8 +186,8 @@ floors = replicate 4 (floor at_the_ends)
 -- 0.25 is not the exact sum of M4, rounded
 too_low : Each (λ s. T (not (eq (floor at_the_ends) (rounding binary32 (exact_sum s.first s.second) 1))))
     (sums_at at_the_ends M4)
-unfolding sums_at M4 at_the_ends add mul neg lt eq of_bits round rounding exact_sum whole_of over under negative magnitude
-    treated clamped limited lifted quad_rows delta yaw_group roll_pitch_group
+unfolding sums_at M4 at_the_ends add mul neg lt eq of_bits round rounding exact_sum whole_of over under negative
+    magnitude treated clamped limited lifted quad_rows delta yaw_group roll_pitch_group
 too_low = (tt, (tt, (tt, (tt, tt))))
 
 abbrev Kept : (List Row → List Float → Float → Float → List Float → Type 0) → Type 0
@@ -255,15 +257,21 @@ no_number_passes s t =
     (differ _ _ (and_r (number_test s.second) _ rest))
 
 are_rounded : Each NoNumber (sums_at between_numbers M4)
-unfolding all_true rounded_test number_test differ_test sums_at M4 between_numbers fits add mul neg lt of_bits exact_sum
-    whole_of over under negative magnitude treated clamped limited lifted quad_rows delta yaw_group roll_pitch_group
+unfolding all_true rounded_test number_test differ_test sums_at M4 between_numbers fits add mul neg lt of_bits
+    exact_sum whole_of over under negative magnitude treated clamped limited lifted quad_rows delta yaw_group
+    roll_pitch_group
 are_rounded = each_passes NoNumber rounded_test no_number_passes (sums_at between_numbers M4) tt
 
 -- ---- the third command meets what `quad_x` asks
 
 -- roll 2 ^ 127, yaw 4, thrust -2 ^ 127; this mix has no floor
 to_minus_infinity : Command
-to_minus_infinity = record { roll_bits = 0x7f00_0000; yaw_bits = 0x4080_0000; thrust_bits = 0xff00_0000; floor_bits = 0 }
+to_minus_infinity = record {
+  roll_bits = 0x7f00_0000;
+  yaw_bits = 0x4080_0000;
+  thrust_bits = 0xff00_0000;
+  floor_bits = 0;
+}
 
 abbrev sums : List Float
 sums = raw_sums quad_rows (torque to_minus_infinity) (thrust to_minus_infinity)

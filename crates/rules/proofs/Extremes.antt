@@ -75,7 +75,8 @@ walk_to_infinity held (x ∷ xs) n w zero e =
 walk_to_infinity held (x ∷ xs) n w (suc i) e =
     walk_to_infinity (larger held x) xs (larger_is NoNan held x n w.0) w.1 i e
 
-pub largest_infinite : (xs : List Float) → Each NoNan xs → (i : ℕ) → get_or xs i nan ≡ inf false → largest xs ≡ inf false
+pub largest_infinite : (xs : List Float) → Each NoNan xs → (i : ℕ) → get_or xs i nan ≡ inf false → largest xs
+    ≡ inf false
 unfolding best
 largest_infinite [] w i e = cc
 largest_infinite (x ∷ xs) w zero e = ap (λ (h : Float). walked larger h xs) e ∙ walk_from_infinity xs

@@ -19,10 +19,10 @@ use Rattle.rules.specs.RotorOut.{motor_without, motors_without, rotor_out_motors
 use Rattle.rules.specs.Figures.{starred, AllHold}
 
 pub starred_hold : (y : Float) → AllHold (starred y)
-unfolding add sub mul div neg lt le eq of_bits absolute treated clamped limited floor_clamp limits motor_limit tightened
-    walk settled fit_scale singular cramer solution quad_rows quad_x_rows lifted delta deltas larger smaller walked best
-    raw_sum raw_sums lowered_by lowered lower_limited plain_motors one_scale scaled_motor scaled_motors thrust_floor_scale
-    thrust_floor_motors yaw_group roll_pitch_group yaw_scale roll_pitch_scale priority_motor priority_motors spread spread_scale
-    unshifted shift shifted airmode_motors tilt tilt_motor equations placed base_without delta_without motor_without
-    motors_without rotor_out_motors frame_motors
+unfolding add sub mul div neg lt le eq of_bits absolute treated clamped limited floor_clamp limits motor_limit
+    tightened walk settled fit_scale singular cramer solution quad_rows quad_x_rows lifted delta deltas larger smaller
+    walked best raw_sum raw_sums lowered_by lowered lower_limited plain_motors one_scale scaled_motor scaled_motors
+    thrust_floor_scale thrust_floor_motors yaw_group roll_pitch_group yaw_scale roll_pitch_scale priority_motor
+    priority_motors spread spread_scale unshifted shift shifted airmode_motors tilt tilt_motor equations placed
+    base_without delta_without motor_without motors_without rotor_out_motors frame_motors
 starred_hold y = refl

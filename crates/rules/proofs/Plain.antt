@@ -80,7 +80,8 @@ plain_no_nan torque thrust hs ht =
     let torque_finite : (k : ℕ) → Finite binary32 (treated (get_or torque k nan)) =
     λ k. treated_finite (get_or torque k nan) (hs k) in
     each_map SteadyRow NoNan (raw_sum (treated thrust) (roll torque) (pitch torque) (yaw torque))
-    (λ row s. (sum_number row (treated_finite thrust ht) (torque_finite 0) (torque_finite 1) (torque_finite 2) s).number)
+    (λ row s. (sum_number row (treated_finite thrust ht) (torque_finite 0) (torque_finite 1) (torque_finite 2)
+    s).number)
     quad_rows quad_steady
 
 -- ---- one raw +infinity makes all of them 0: largest - 1 is +infinity, and what it is taken from is no longer finite

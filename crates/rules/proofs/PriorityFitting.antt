@@ -55,7 +55,8 @@ module _ (torque : List Float) (thrust floor : Float) (hf : T (fits binary32 flo
       rw map-map (fitting_scale lo_floor Fitting (λ row. base +f rp row) y
       (λ row. add-fits binary32 base (rp row)) yaw_fits (λ row v. v.yaw_last) rows w)
 
-  roll_pitch_scale_lem : (rows : List Row) → Each Fitting rows → roll_pitch_scale lo base 1f (map rp rows) (map y rows) ≡ 1f
+  roll_pitch_scale_lem : (rows : List Row) → Each Fitting rows
+      → roll_pitch_scale lo base 1f (map rp rows) (map y rows) ≡ 1f
   unfolding roll_pitch_scale
   roll_pitch_scale_lem rows w =
       rw map-map
@@ -85,7 +86,8 @@ priority_fitting rows torque thrust floor hf w =
 pub priority_nearest : (rows : List Row) (torque : List Float) (thrust floor : Float) → T (fits binary32 floor)
     → AllFitBothOrders rows torque thrust floor
     → (i : ℕ) → i < length rows
-    → SumRounded (roll_pitch_sum torque thrust floor (get_or rows i no_row)) (yaw_group (yaw torque) (get_or rows i no_row))
+    → SumRounded (roll_pitch_sum torque thrust floor (get_or rows i no_row))
+    (yaw_group (yaw torque) (get_or rows i no_row))
     (get_or (priority_motors rows torque thrust floor) i nan)
 priority_nearest rows torque thrust floor hf w i s =
     rw (priority_fitting rows torque thrust floor hf w, map_at (priority_sum torque thrust floor) no_row nan rows i s)

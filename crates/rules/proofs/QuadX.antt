@@ -198,9 +198,11 @@ module _ {A : Type 0} (sum : A → Float) where
         largest_is FiniteOrLeast 1f (map sum l) (is_finite one_finite, each_map _ FiniteOrLeast sum (λ a h. h) l ls) in
         let raw = limited_from_one (map sum l) (each_map _ (Number binary32) sum (λ a h. number_of h) l ls) in
         let all =
-        limited_from_one (map treated_sum (l ++ m)) (each_mapped (Number binary32) treated_sum treated_number (l ++ m)) in
+        limited_from_one (map treated_sum (l ++ m))
+        (each_mapped (Number binary32) treated_sum treated_number (l ++ m)) in
         rw (raw, all, same_walk one_from_one l m ls ms) (simp (map-map, take_mapped)
-        (each_same _ (λ a. motor_of most (treated_sum a)) (λ a. motor_of most (sum a)) (λ a h. same_motor most_is h) l ls))
+        (each_same _ (λ a. motor_of most (treated_sum a)) (λ a. motor_of most (sum a)) (λ a h. same_motor most_is h)
+        l ls))
 
 -- ---- the frame's mix, with further rows, agrees with plain on the frame
 

@@ -49,7 +49,8 @@ module _ {lo base : Float} (l : Floor lo) (b : Finite binary32 base) (d : Row �
 pub thrust_floor_fitting : (rows : List Row) (torque : List Float) (thrust floor : Float) → T (fits binary32 thrust)
     → T (fits binary32 floor)
     → Fits floor (collective thrust floor) (deltas rows torque)
-    → EachMotor (SumRounded (collective thrust floor)) (deltas rows torque) (thrust_floor_motors rows torque thrust floor)
+    → EachMotor (SumRounded (collective thrust floor)) (deltas rows torque)
+    (thrust_floor_motors rows torque thrust floor)
     × (thrust_floor_scale rows torque thrust floor ≡ 1f)
 unfolding deltas thrust_floor_scale thrust_floor_motors
 thrust_floor_fitting rows torque thrust floor ht hf w =

@@ -1,7 +1,7 @@
 -- What the mixes promise of their motors (demand 3, whose text is in docs/STATEMENT.md, and document 01's claims on
 -- plain and on any airframe), in words that each is said in once. Here `motors` and `scale` are what a function
 -- answers, and a frame is any list of rows. Definitions only; the quotations are demand 3's and document 01's.
-use Rattle.std.specs.Prelude.{◌≡◌, true, false, not, List, [], ◌∷◌, map, ℕ, ◌<◌, T, length, get_or, take, Float}
+use Rattle.std.specs.Prelude.{◌≡◌, true, false, not, List, map, ℕ, ◌<◌, T, length, get_or, take, Float}
 use Rattle.std.specs.Float.{nan, inf, binary32}
 use Rattle.std.specs.Float.Ieee.{lt, le, eq, is_nan, of_bits}
 use Rattle.binary32.specs.Arithmetic.{◌+f◌, 0f, 1f}
@@ -91,7 +91,8 @@ pub record PriorityKeeps (rows : List Row) (torque : List Float) (thrust floor :
   -- so each motor is a nearest f32 to (collective plus roll/pitch, rounded) plus yaw, exactly
   pub nearest : AllFitBothOrders rows torque thrust floor
       → (i : ℕ) → i < length rows
-      → SumRounded (roll_pitch_sum torque thrust floor (get_or rows i no_row)) (yaw_group (yaw torque) (get_or rows i no_row))
+      → SumRounded (roll_pitch_sum torque thrust floor (get_or rows i no_row))
+      (yaw_group (yaw torque) (get_or rows i no_row))
       (get_or motors i nan)
 
 pub record AirmodeKeeps (rows : List Row) (torque : List Float) (thrust idle : Float) (motors : List Float)

@@ -56,7 +56,8 @@ delta_without f r p = placed f (solution (equations f) (0f ∷ r ∷ p ∷ [])).
 
 -- "healthy motors get the floor clamp of treated base + s*delta, the lost one +0"
 unfoldable pub motor_without : ℕ → Float → Float → List Float → List Float → ℕ → Float
-motor_without f floor s bs ds i = cond (eqb i f) 0f (floor_clamp (treated (get_or bs i nan +f s *f get_or ds i nan)) floor)
+motor_without f floor s bs ds i =
+    cond (eqb i f) 0f (floor_clamp (treated (get_or bs i nan +f s *f get_or ds i nan)) floor)
 
 -- "fit scale over all four"
 unfoldable pub motors_without : ℕ → Float → List Float → List Float → List Float
@@ -70,4 +71,5 @@ rotor_out_motors f torque thrust floor =
     let t = limited thrust in
     let r = tilt (get_or torque 0 nan) in
     let p = tilt (get_or torque 1 nan) in
-    cond (ltb f 4) (motors_without f low (base_without f t) (delta_without f r p)) (map (tilt_motor low t r p) quad_rows)
+    cond (ltb f 4) (motors_without f low (base_without f t) (delta_without f r p))
+    (map (tilt_motor low t r p) quad_rows)

@@ -23,4 +23,5 @@ unfoldable pub thrust_floor_scale : List Row → List Float → Float → Float 
 thrust_floor_scale rows torque thrust floor = one_scale (limited floor) (collective thrust floor) (deltas rows torque)
 
 unfoldable pub thrust_floor_motors : List Row → List Float → Float → Float → List Float
-thrust_floor_motors rows torque thrust floor = scaled_motors (limited floor) (collective thrust floor) (deltas rows torque)
+thrust_floor_motors rows torque thrust floor =
+    scaled_motors (limited floor) (collective thrust floor) (deltas rows torque)

@@ -14,7 +14,8 @@ summed column s (row ∷ rows) (m ∷ ms) = summed column (s +f column row *f m)
 -- roll, pitch and yaw, each sum from +0 on, as the Rust begins it (000, 606-614, 753 on), which settles the sign of a
 -- zero
 unfoldable pub torque_of : List Row → List Float → List Float
-torque_of rows motors = summed roll_of 0f rows motors ∷ summed pitch_of 0f rows motors ∷ summed yaw_of 0f rows motors ∷ []
+torque_of rows motors = summed roll_of 0f rows motors ∷ summed pitch_of 0f rows motors ∷ summed yaw_of 0f rows motors
+    ∷ []
 
 -- thrust, roll, pitch and yaw of treated motors: "`achieved_wrench` treats motors but not the matrix, so it can yield
 -- NaN"

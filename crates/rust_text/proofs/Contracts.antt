@@ -87,7 +87,8 @@ module _ (self : QuadMixer) (torque : List Float) (thrust floor : Float) {q : Qu
       → left q ≡ mix_rotor_out (quad_of self) failed torque thrust floor
   quad_mix_rotor_out failed g = ap left g.is ∙ sym (mix_rotor_out_is (quad_of self) failed torque thrust floor)
 
-pub motors_to_torque_signs_lem : (motors : List Float) → length motors ≡ 4 → {r : List Float} → r ≡ torque_of quad_rows motors
+pub motors_to_torque_signs_lem : (motors : List Float) → length motors ≡ 4 → {r : List Float} → r
+    ≡ torque_of quad_rows motors
     → r ≡ motors_to_torque_signs motors
 motors_to_torque_signs_lem motors h e = e ∙ sym (torque_signs_are motors h)
 

@@ -8,7 +8,8 @@ use Rattle.number.specs.Treat.{limited}
 use Rattle.fit.specs.Fit.{fit_scale}
 use Rattle.rules.specs.Rows.{Row, quad_rows}
 use Rattle.rules.specs.Command.{roll, pitch, yaw, lifted, collective}
-use Rattle.rules.specs.Priority.{yaw_group, roll_pitch_group, yaw_scale, roll_pitch_scale, priority_motor, priority_motors}
+use Rattle.rules.specs.Priority.{yaw_group, roll_pitch_group, yaw_scale, roll_pitch_scale, priority_motor}
+use Rattle.rules.specs.Priority.{priority_motors}
 use Rattle.rust_text.specs.Forms.{◌!◌}
 use Rattle.rust_text.specs.Fit.{scale_to_fit}
 use Rattle.rust_text.specs.State.{Quad, MIXER_X, answered, store_motors}

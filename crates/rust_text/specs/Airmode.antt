@@ -1,10 +1,10 @@
 -- The Rust's `QuadMixer::mix_airmode`, a step a definition, with the tests that document 01's rule has not. Follows
 -- relay-mix-quad (document 000), Apache-2.0, see NOTICE; changed: written as definitions. Definitions only.
-use Rattle.std.specs.Prelude.{not, ◌&&◌, ◌||◌, List, [], ◌∷◌, map, drop, Float}
+use Rattle.std.specs.Prelude.{not, ◌&&◌, ◌||◌, List, [], ◌∷◌, map, drop, Float, if◌then◌else◌}
 use Rattle.std.specs.Float.Ieee.{neg}
 use Rattle.std.specs.Float.Ieee.Scale.{finite}
 use Rattle.binary32.specs.Arithmetic.{◌+f◌, ◌-f◌, ◌*f◌, ◌/f◌, 0f, 1f, small}
-use Rattle.rust_text.specs.Forms.{if◌then◌else◌, ◌<f◌, ◌>f◌, ◌!◌, for_each}
+use Rattle.rust_text.specs.Forms.{◌<f◌, ◌>f◌, ◌!◌, for_each}
 use Rattle.rust_text.specs.Numbers.{sanitise, clamp01, clamp_floor}
 use Rattle.rust_text.specs.State.{Quad, Method, store_motors}
 use Rattle.rust_text.specs.ThrustFloor.{torque_deltas}

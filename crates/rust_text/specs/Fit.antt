@@ -1,10 +1,10 @@
 -- The Rust's fit scale. Follows relay-mix-quad (document 000), Apache-2.0, see NOTICE; changed: written as definitions.
 -- Definitions only.
-use Rattle.std.specs.Prelude.{not, ◌||◌, List, Float}
+use Rattle.std.specs.Prelude.{not, ◌||◌, List, Float, if◌then◌else◌}
 use Rattle.std.specs.Float.Ieee.{neg}
 use Rattle.std.specs.Float.Ieee.Scale.{finite}
 use Rattle.binary32.specs.Arithmetic.{◌-f◌, ◌/f◌, 0f, 1f, small}
-use Rattle.rust_text.specs.Forms.{if◌then◌else◌, ◌<f◌, ◌>f◌, ◌!◌, for_up_to}
+use Rattle.rust_text.specs.Forms.{◌<f◌, ◌>f◌, ◌!◌, for_up_to}
 
 -- 000:581: fn scale_to_fit(base: &[f32; 4], delta: &[f32; 4], floor: f32) -> f32 {
 unfoldable pub scale_to_fit : List Float → List Float → Float → Float

@@ -5,13 +5,8 @@ use Rattle.std.specs.Prelude.{Bool, cond, List, [], ◌∷◌, ℕ, zero, suc, g
 use Rattle.std.specs.Float.{nan}
 use Rattle.std.specs.Float.Ieee.{lt}
 
-infix 20 if◌then◌else◌
 infix 55 ◌<f◌ ◌>f◌
 infixl 80 ◌!◌ ◌!!◌
--- `if t { a } else { b }`
-abbrev pub if◌then◌else◌ : {A : Type 0} → Bool → A → A → A
-if t then a else b = cond t a b
-
 -- `x < y` and `x > y`
 abbrev pub ◌<f◌ : Float → Float → Bool
 x <f y = lt x y

@@ -1,8 +1,8 @@
 -- The Rust's `MixerN`, without `from_geometry` and `hexa_x`. Follows relay-mix-quad (document 000), Apache-2.0, see
 -- NOTICE; changed: written as definitions. Definitions only.
-use Rattle.std.specs.Prelude.{List, map, ℕ, ltb, set, replicate, Float}
+use Rattle.std.specs.Prelude.{List, map, ℕ, ltb, set, replicate, Float, if◌then◌else◌}
 use Rattle.binary32.specs.Arithmetic.{◌+f◌, ◌*f◌, 0f}
-use Rattle.rust_text.specs.Forms.{if◌then◌else◌, ◌!◌, ◌!!◌, for_up_to, for_each, zip_into, zip}
+use Rattle.rust_text.specs.Forms.{◌!◌, ◌!!◌, for_up_to, for_each, zip_into, zip}
 use Rattle.rust_text.specs.Numbers.{sanitise, clamp01}
 use Rattle.rust_text.specs.State.{MIXER_X}
 use Rattle.rust_text.specs.Plain.{excess_taken}

@@ -1,12 +1,12 @@
 -- The Rust's functions of one number. Follows relay-mix-quad (document 000) and relay-mix-multi (001), Apache-2.0, see
 -- NOTICE; changed: written as definitions. Definitions only.
-use Rattle.std.specs.Prelude.{Bool, not, ◌||◌, Float}
+use Rattle.std.specs.Prelude.{Bool, not, ◌||◌, Float, if◌then◌else◌}
 use Rattle.std.specs.Int.Bits.{bit_and}
 use Rattle.std.specs.Float.{binary32}
 use Rattle.std.specs.Float.Ieee.{is_nan, le, of_bits, to_bits}
 use Rattle.std.specs.Float.Ieee.Scale.{finite}
 use Rattle.binary32.specs.Arithmetic.{0f, 1f}
-use Rattle.rust_text.specs.Forms.{if◌then◌else◌, ◌<f◌, ◌>f◌}
+use Rattle.rust_text.specs.Forms.{◌<f◌, ◌>f◌}
 
 -- ---- `f32::clamp` of Rust's own library
 

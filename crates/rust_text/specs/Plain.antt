@@ -1,9 +1,9 @@
 -- The Rust's `QuadMixer::mix`, a step a definition. Follows relay-mix-quad (document 000), Apache-2.0, see NOTICE;
 -- changed: written as definitions. `MixerN::mix` has its two middle steps word for word. Definitions only.
-use Rattle.std.specs.Prelude.{not, ◌||◌, List, map, set, drop, replicate, Float}
+use Rattle.std.specs.Prelude.{not, ◌||◌, List, map, set, drop, replicate, Float, if◌then◌else◌}
 use Rattle.std.specs.Float.Ieee.Scale.{finite}
 use Rattle.binary32.specs.Arithmetic.{◌+f◌, ◌-f◌, ◌*f◌, 0f, 1f}
-use Rattle.rust_text.specs.Forms.{if◌then◌else◌, ◌<f◌, ◌>f◌, ◌!◌, ◌!!◌, for_up_to, for_each}
+use Rattle.rust_text.specs.Forms.{◌<f◌, ◌>f◌, ◌!◌, ◌!!◌, for_up_to, for_each}
 use Rattle.rust_text.specs.Numbers.{sanitise}
 use Rattle.rust_text.specs.State.{Quad, MIXER_X, Method, store_motors}
 

@@ -1,8 +1,8 @@
 -- The Rust's `QuadMixer::mix_priority`, a step a definition. Follows relay-mix-quad (document 000), Apache-2.0, see
 -- NOTICE; changed: written as definitions. Definitions only.
-use Rattle.std.specs.Prelude.{List, [], ◌∷◌, set, replicate, Float}
+use Rattle.std.specs.Prelude.{List, [], ◌∷◌, set, replicate, Float, if◌then◌else◌}
 use Rattle.binary32.specs.Arithmetic.{◌+f◌, ◌*f◌, 0f}
-use Rattle.rust_text.specs.Forms.{if◌then◌else◌, ◌<f◌, ◌!◌, ◌!!◌, for_up_to}
+use Rattle.rust_text.specs.Forms.{◌<f◌, ◌!◌, ◌!!◌, for_up_to}
 use Rattle.rust_text.specs.Numbers.{sanitise, clamp01, clamp_floor}
 use Rattle.rust_text.specs.Fit.{scale_to_fit}
 use Rattle.rust_text.specs.State.{Quad, MIXER_X, Method, store_motors}

@@ -1,11 +1,11 @@
 -- The Rust's `QuadMixer::mix_rotor_out`, a step a definition. Follows relay-mix-quad (document 000), Apache-2.0, see
 -- NOTICE; changed: written as definitions. Definitions only.
-use Rattle.std.specs.Prelude.{not, List, [], ◌∷◌, ℕ, ◌+◌, ◌%◌, eqb, leb, get_or, set, replicate, Float}
+use Rattle.std.specs.Prelude.{not, List, [], ◌∷◌, ℕ, ◌+◌, ◌%◌, eqb, leb, get_or, set, replicate, Float, if◌then◌else◌}
 use Rattle.std.proofs.Math.Option.{Option, none, some}
 use Rattle.std.specs.Float.Ieee.{neg}
 use Rattle.binary32.specs.Arithmetic.{◌+f◌, ◌*f◌, 0f, 1f}
 use Rattle.rules.specs.RotorOut.{3f, 8f}
-use Rattle.rust_text.specs.Forms.{if◌then◌else◌, ◌!◌, ◌!!◌, for_up_to}
+use Rattle.rust_text.specs.Forms.{◌!◌, ◌!!◌, for_up_to}
 use Rattle.rust_text.specs.Numbers.{clamp, sanitise, clamp01, clamp_floor}
 use Rattle.rust_text.specs.Solve.{solve3}
 use Rattle.rust_text.specs.Fit.{scale_to_fit}

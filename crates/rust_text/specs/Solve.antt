@@ -1,10 +1,10 @@
 -- The Rust's three equations in three unknowns. Follows relay-mix-quad (document 000), Apache-2.0, see NOTICE; changed:
 -- written as definitions. Definitions only.
-use Rattle.std.specs.Prelude.{not, ◌||◌, List, set, replicate, Float}
+use Rattle.std.specs.Prelude.{not, ◌||◌, List, set, replicate, Float, if◌then◌else◌}
 use Rattle.std.proofs.Math.Option.{Option, none, some}
 use Rattle.std.specs.Float.Ieee.Scale.{finite}
 use Rattle.binary32.specs.Arithmetic.{◌+f◌, ◌-f◌, ◌*f◌, ◌/f◌, 0f, small}
-use Rattle.rust_text.specs.Forms.{if◌then◌else◌, ◌<f◌, ◌!◌, ◌!!◌, for_up_to, zip_into}
+use Rattle.rust_text.specs.Forms.{◌<f◌, ◌!◌, ◌!!◌, for_up_to, zip_into}
 use Rattle.rust_text.specs.Numbers.{libm_fabsf}
 
 -- 000:504: fn det3(a: [[f32; 3]; 3]) -> f32 {

@@ -1,10 +1,10 @@
 -- The Rust's `QuadMixer::mix_thrust_floor`, a step a definition: it has a walk of its own for the scale. Follows
 -- relay-mix-quad (document 000), Apache-2.0, see NOTICE; changed: written as definitions. Definitions only.
-use Rattle.std.specs.Prelude.{not, ◌||◌, List, set, replicate, Float}
+use Rattle.std.specs.Prelude.{not, ◌||◌, List, set, replicate, Float, if◌then◌else◌}
 use Rattle.std.specs.Float.Ieee.{neg}
 use Rattle.std.specs.Float.Ieee.Scale.{finite}
 use Rattle.binary32.specs.Arithmetic.{◌+f◌, ◌-f◌, ◌*f◌, ◌/f◌, 0f, 1f, small}
-use Rattle.rust_text.specs.Forms.{if◌then◌else◌, ◌<f◌, ◌>f◌, ◌!◌, ◌!!◌, for_up_to, for_each}
+use Rattle.rust_text.specs.Forms.{◌<f◌, ◌>f◌, ◌!◌, ◌!!◌, for_up_to, for_each}
 use Rattle.rust_text.specs.Numbers.{sanitise, clamp01, clamp_floor}
 use Rattle.rust_text.specs.State.{Quad, MIXER_X, Method, store_motors, store_scale}
 

@@ -47,7 +47,8 @@ good s i h =
 
 -- ---- the entries, and the end
 
-entries_good : (s : List ℕ) (i left : ℕ) → (entries_told s i left).number ≡ accepted → (j : ℕ) → j < left → Good s (i + j)
+entries_good : (s : List ℕ) (i left : ℕ) → (entries_told s i left).number ≡ accepted → (j : ℕ) → j < left
+    → Good s (i + j)
 unfolding entries_told
 entries_good s i zero h j l = absurd (not-suc-le-zero l)
 entries_good s i (suc left) h zero l = rw add-zero (good s i (entry_passed _ _ _ h).0)

@@ -19,7 +19,8 @@ use Rattle.sheet.specs.Table.{entry_number, entry_told}
 
 module _ (s : List ℕ) (i end : ℕ) where
   -- a refusal by the kind or the rotor byte comes first
-  choice_first : {r : Refusal} → ChosenBy (kind_of s i) (rotor_of s i) (Refused r) → entry_number s i end ≡ refusal_number r
+  choice_first : {r : Refusal} → ChosenBy (kind_of s i) (rotor_of s i) (Refused r) → entry_number s i end
+      ≡ refusal_number r
   unfolding entry_number
   choice_first {r} h =
       first_decides (choice_number (kind_of s i) (rotor_of s i)) _ (rw (chosen_refusal h) (never_accepted r))

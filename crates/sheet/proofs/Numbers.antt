@@ -11,14 +11,16 @@ use Rattle.refusals.specs.Numbers.{bad_kind, bad_rotor, bad_offset, bad_end, sho
 use Rattle.refusals.specs.Told.{given, first, at_entry}
 use Rattle.refusals.proofs.First.{given_keeps, first_keeps, entry_keeps}
 use Rattle.wire.specs.Bytes.{little_endian, read_at}
-use Rattle.entries.specs.Layout.{version_of, count_of, length_field, entry_at, kind_of, rotor_of, offset_of, body_size, body_at}
+use Rattle.entries.specs.Layout.{version_of, count_of, length_field, entry_at, kind_of, rotor_of, offset_of}
+use Rattle.entries.specs.Layout.{body_size, body_at}
 use Rattle.entries.specs.Choice.{choice_number}
 use Rattle.sheet.specs.Table.{max_entries, entry_number, head_number, end_number, entries_told, judged}
 
 -- ---- a sheet's own numbers
 
 abbrev pub sheet_numbers : List ℕ
-sheet_numbers = accepted ∷ too_short ∷ bad_version ∷ too_many ∷ bad_length ∷ bad_kind ∷ bad_rotor ∷ bad_offset ∷ bad_end ∷ []
+sheet_numbers = accepted ∷ too_short ∷ bad_version ∷ too_many ∷ bad_length ∷ bad_kind ∷ bad_rotor ∷ bad_offset ∷
+    bad_end ∷ []
 
 -- whether n is one of some numbers
 abbrev pub is_one_of : List ℕ → ℕ → Bool

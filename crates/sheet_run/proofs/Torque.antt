@@ -1,6 +1,6 @@
 -- In every state that is reached from a fresh one the stored sums are those of its motors (document 02, K7). Assumes
 -- nothing.
-use mathlib.Core.Path.{◌≡◌, refl, sym, subst}
+use mathlib.Core.Path.{refl, sym, subst}
 use mathlib.Core.Bool.{Bool, true, false, cond}
 use mathlib.Core.List.{List, [], ◌∷◌}
 use Prim.Native.Nat.{ℕ}

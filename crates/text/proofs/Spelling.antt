@@ -46,7 +46,8 @@ below_power zero = omega arith
 below_power (suc j) = let h : j < 10 ^ j = below_power j in rw pow-succ' (omega arith)
 
 -- where j digits come before the last, and the first is not 0 unless it is the last, they are the decimal digits
-decimal_digits : (j k n : ℕ) → j ≤ k → n < 10 ^ suc j → (0 < j → 10 ^ j ≤ n) → last_digits 10 (suc j) n ≡ decimal_within k n
+decimal_digits : (j k n : ℕ) → j ≤ k → n < 10 ^ suc j → (0 < j → 10 ^ j ≤ n) → last_digits 10 (suc j) n
+    ≡ decimal_within k n
 unfolding decimal_within
 decimal_digits zero zero n le top low = refl
 decimal_digits zero (suc k) n le top low = rw (lt-ltb n 10 (omega arith))

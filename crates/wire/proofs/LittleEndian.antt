@@ -68,7 +68,8 @@ little_endian_take_add (suc j) k (b ∷ bs) =
     rw (suc-add, little_endian_take_add j k bs, pow-succ', mul-add, mul_assoc, add_assoc)
 
 -- j + k bytes are read as j bytes and the k bytes after them
-pub read_at_add : (j k : ℕ) (s : List ℕ) (at : ℕ) → read_at (j + k) s at ≡ read_at j s at + 256 ^ j * read_at k s (at + j)
+pub read_at_add : (j k : ℕ) (s : List ℕ) (at : ℕ) → read_at (j + k) s at
+    ≡ read_at j s at + 256 ^ j * read_at k s (at + j)
 unfolding read_at
 read_at_add j k s at = rw (little_endian_take_add j k, drop-drop)
 
@@ -192,7 +193,8 @@ write_at_part (b ∷ out) (suc n) at bs h = rw (suc-add, write_at_cons, write_at
 -- ---- writing a number at a place
 
 -- a number of k bytes that do not fit is not written
-pub write_at_bytes_of_short : (k x : ℕ) (out : List ℕ) (at : ℕ) → length out < at + k → write_at out at (bytes_of k x) ≡ out
+pub write_at_bytes_of_short : (k x : ℕ) (out : List ℕ) (at : ℕ) → length out < at + k → write_at out at (bytes_of k x)
+    ≡ out
 write_at_bytes_of_short k x out at h = write_at_short out at (bytes_of k x) (rw bytes_of_length h)
 
 -- no bytes change nothing

@@ -1,9 +1,7 @@
 -- `bodies::place` meets its contract: of an accepted sheet and one of its entries the body's offset and size, else an
 -- empty part. Assumes nothing.
-use mathlib.Core.Path.{◌≡◌, sym}
-use Rattle.refusals.specs.Numbers.{accepted}
+use mathlib.Core.Path.{sym}
 use Rattle.entries.proofs.Chosen.{never_accepted}
-use Rattle.sheet.specs.Table.{judged}
 use Rattle.sheet.proofs.Verdicts.{accepted_number, refused_number}
 use Rattle.bodies.proofs.Bodies.{none_of_refused, none_past, body_under, none_placed, body_placed}
 use Rattle.bodies.proofs.place.Goals as goal
@@ -15,9 +13,11 @@ returns-in_default c =
 
 pub returns-then-i-count : goal.returns-then-i-count
 returns-then-i-count c =
-    sym (none_placed _ _ (none_past _ _ (accepted_number c.check.ensures c.in-Accepted.is) (rw c.count.ensures at c.if-i-count.true)))
+    sym (none_placed _ _ (none_past _ _ (accepted_number c.check.ensures c.in-Accepted.is)
+        (rw c.count.ensures at c.if-i-count.true)))
 
 pub returns : goal.returns
 returns c =
     rw (c.body_size.ensures, c.kind.ensures, c.offset.ensures)
-    (sym (body_placed _ _ (body_under _ _ (accepted_number c.check.ensures c.in-Accepted.is) (rw c.count.ensures at c.if-i-count.false))))
+    (sym (body_placed _ _
+        (body_under _ _ (accepted_number c.check.ensures c.in-Accepted.is) (rw c.count.ensures at c.if-i-count.false))))

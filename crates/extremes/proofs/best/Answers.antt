@@ -1,13 +1,12 @@
 -- `extremes::best` meets its contract. The loop's invariant: what is left to walk, from the number held, gives the
 -- whole walk. An element's offset, 4 bytes each, fits a `usize` since a slice's bytes do. Assumes nothing.
-use mathlib.Core.Path.{◌≡◌, sym, ap, ◌∙◌}
-use mathlib.Core.Bool.{Bool, cond}
-use Prim.Native.Nat.{◌+◌, ◌-◌, ◌≤◌}
+use mathlib.Core.Path.{sym, ap, ◌∙◌}
+use Prim.Native.Nat.{◌+◌}
 use native.Mathlib.Omega.{arith}
 use lib.ListN.{length, drop}
 use lib.Ieee.{Float}
 use borrow.Author.Rules.{scaled_Fits}
-use Rattle.rules.specs.Extremes.{larger, smaller, walked, best}
+use Rattle.rules.specs.Extremes.{walked}
 use Rattle.extremes.proofs.Walk.{best_of_none, walk_start, walk_next, walk_over}
 use Rattle.extremes.proofs.Walk.{by}
 use Rattle.extremes.proofs.best.Goals as goal

@@ -1,12 +1,9 @@
 -- `fit::is_cut` meets its contract. The loop's invariant: what was found, or else what is left to search, is the
 -- answer. Assumes nothing.
-use mathlib.Core.Path.{◌≡◌, refl, sym, ◌∙◌}
-use mathlib.Core.Bool.{◌||◌}
-use Prim.Native.Nat.{◌-◌, ◌≤◌, min}
+use mathlib.Core.Path.{refl, sym, ◌∙◌}
 use native.Mathlib.Omega.{arith}
-use lib.ListN.{length, drop}
+use lib.ListN.{length}
 use borrow.Author.Rules.{scaled_Fits}
-use Rattle.fit.specs.Cut.{is_cut}
 use Rattle.fit.proofs.Cut.{or_none, cut_next, cut_over}
 use Rattle.fit.proofs.is_cut.Goals as goal
 

@@ -1,13 +1,10 @@
 -- `fit::is_cut` meets its contract. The loop's invariant: what was found, or else what is left to search, is the
 -- answer. Assumes nothing.
-use mathlib.Core.Path.{◌≡◌, refl, sym, ◌∙◌}
+use mathlib.Core.Path.{◌≡◌}
 use mathlib.Core.Bool.{◌||◌}
 use Prim.Native.Nat.{◌-◌, ◌≤◌, min}
-use native.Mathlib.Omega.{arith}
 use lib.ListN.{length, drop}
-use borrow.Author.Rules.{rules, scaled_Fits}
 use Rattle.fit.specs.Cut.{is_cut}
-use Rattle.fit.proofs.Cut.{or_none, cut_next, cut_over}
 use Rattle.fit.proofs.is_cut.Given as goal
 
 abbrev pub invariant-loop-i : goal.invariant-loop-i

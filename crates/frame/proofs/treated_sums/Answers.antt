@@ -2,7 +2,7 @@
 -- others are as they were. Assumes nothing.
 use mathlib.Core.Path.{◌≡◌, refl, sym, ◌∙◌}
 use mathlib.Core.List.{List, map, map-map}
-use Prim.Native.Nat.{◌-◌, ◌≤◌, ◌<◌}
+use Prim.Native.Nat.{◌<◌}
 use native.Mathlib.Omega.{arith}
 use lib.ListN.{length, length-set}
 use lib.Ieee.{Float, nan}
@@ -10,8 +10,7 @@ use borrow.Author.Rules.{scaled_Fits}
 use Rattle.number.specs.Treat.{treated}
 use Rattle.rules.specs.Rows.{Row, rows_of}
 use Rattle.rules.specs.Command.{roll, pitch, yaw}
-use Rattle.rules.specs.Plain.{raw_sum, raw_sums}
-use Rattle.general.proofs.Filled.{filled}
+use Rattle.rules.specs.Plain.{raw_sums}
 use Rattle.rules.proofs.Runs.{fill_from_row, filled_from_rows}
 use Rattle.frame.proofs.treated_sums.Invariants.{sum_of}
 use Rattle.frame.proofs.treated_sums.Goals as goal

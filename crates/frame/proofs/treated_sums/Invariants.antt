@@ -1,18 +1,14 @@
 -- `frame::treated_sums` meets its contract. The loop's invariant: the sums up to i are filled in, treated, and the
 -- others are as they were. Assumes nothing.
-use mathlib.Core.Path.{◌≡◌, refl, sym, ◌∙◌}
-use mathlib.Core.List.{List, map, map-map}
-use Prim.Native.Nat.{◌-◌, ◌≤◌, ◌<◌}
-use native.Mathlib.Omega.{arith}
-use lib.ListN.{length, length-set}
-use lib.Ieee.{Float, nan}
-use borrow.Author.Rules.{rules, scaled_Fits}
+use mathlib.Core.Path.{◌≡◌}
+use mathlib.Core.List.{map}
+use Prim.Native.Nat.{◌-◌, ◌≤◌}
+use lib.ListN.{length}
+use lib.Ieee.{Float}
 use Rattle.number.specs.Treat.{treated}
 use Rattle.rules.specs.Rows.{Row, rows_of}
-use Rattle.rules.specs.Command.{roll, pitch, yaw}
-use Rattle.rules.specs.Plain.{raw_sum, raw_sums}
+use Rattle.rules.specs.Plain.{raw_sum}
 use Rattle.general.proofs.Filled.{filled}
-use Rattle.rules.proofs.Runs.{fill_from_row, filled_from_rows}
 use Rattle.frame.proofs.treated_sums.Given as goal
 
 -- one sum of the rule
@@ -21,7 +17,8 @@ sum_of t r p y row = treated (raw_sum t r p y row)
 
 abbrev pub invariant-loop-i : goal.invariant-loop-i
 invariant-loop-i l =
-    (l.i ≤ length l.initial.m) × (length l.m ≡ length l.initial.m) × (l.m ≡ filled l.initial.m (map (sum_of l.t l.r l.p l.y) (rows_of l.rows)) l.i)
+    (l.i ≤ length l.initial.m) × (length l.m ≡ length l.initial.m)
+        × (l.m ≡ filled l.initial.m (map (sum_of l.t l.r l.p l.y) (rows_of l.rows)) l.i)
 
 abbrev pub decreases-loop-i : goal.decreases-loop-i
 decreases-loop-i l = length l.initial.m - l.i

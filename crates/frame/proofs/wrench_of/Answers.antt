@@ -2,9 +2,9 @@
 -- is held, gives the whole sum. Assumes nothing.
 use mathlib.Core.Path.{◌≡◌, refl, sym, ◌∙◌}
 use mathlib.Core.List.{List, map}
-use Prim.Native.Nat.{ℕ, ◌+◌, ◌*◌, ◌-◌, ◌≤◌, ◌<◌}
+use Prim.Native.Nat.{ℕ, ◌+◌, ◌*◌, ◌≤◌, ◌<◌}
 use native.Mathlib.Omega.{arith}
-use lib.ListN.{length, get_or, drop, length-map}
+use lib.ListN.{length, get_or, length-map}
 use lib.Ieee.{Float, nan}
 use borrow.Author.Rules.{scaled_Fits}
 use Rattle.binary32.specs.Arithmetic.{◌+f◌, ◌*f◌, 0f}

@@ -1,19 +1,14 @@
 -- `frame::wrench_of` meets its contract. The loop's invariant: what is left to add to each of the four sums, from what
 -- is held, gives the whole sum. Assumes nothing.
-use mathlib.Core.Path.{◌≡◌, refl, sym, ◌∙◌}
+use mathlib.Core.Path.{◌≡◌}
 use mathlib.Core.List.{List, map}
-use Prim.Native.Nat.{ℕ, ◌+◌, ◌*◌, ◌-◌, ◌≤◌, ◌<◌}
-use native.Mathlib.Omega.{arith}
-use lib.ListN.{length, get_or, drop, length-map}
-use lib.Ieee.{Float, nan}
-use borrow.Author.Rules.{rules, scaled_Fits}
-use Rattle.binary32.specs.Arithmetic.{◌+f◌, ◌*f◌, 0f}
+use Prim.Native.Nat.{ℕ, ◌-◌, ◌≤◌}
+use lib.ListN.{length, drop}
+use lib.Ieee.{Float}
+use Rattle.binary32.specs.Arithmetic.{0f}
 use Rattle.number.specs.Treat.{treated}
-use Rattle.rules.specs.Rows.{Row, rows_of, row_at, thrust_of, roll_of, pitch_of, yaw_of}
-use Rattle.rules.specs.Torque.{summed, torque_of, achieved}
-use Rattle.general.proofs.Lists.{map_at}
-use Rattle.rules.proofs.Runs.{rows_count}
-use Rattle.rules.proofs.Sums.{summed_next, summed_over}
+use Rattle.rules.specs.Rows.{Row, rows_of, thrust_of, roll_of, pitch_of, yaw_of}
+use Rattle.rules.specs.Torque.{summed}
 use Rattle.frame.proofs.wrench_of.Given as goal
 
 -- what is left to add to a column's sum, from s, gives the whole sum

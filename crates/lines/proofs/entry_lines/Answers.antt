@@ -1,11 +1,9 @@
 -- `lines::entry_lines` meets its contract. The loop's invariant: what is left, written at the place reached, gives the
 -- whole. Assumes nothing.
 use mathlib.Core.Path.{◌≡◌}
-use mathlib.Core.List.{List}
-use Prim.Native.Nat.{ℕ, ◌-◌, ◌*◌, ◌≤◌}
+use Prim.Native.Nat.{◌-◌, ◌*◌}
 use native.Mathlib.Nat.{sub-zero}
 use native.Mathlib.Omega.{arith}
-use lib.ListN.{length}
 use Rattle.lines.specs.Lines.{lines_from, lines_of, Put}
 use Rattle.lines.proofs.Parts.{put_within, put_nothing, put_lines, put_written}
 use Rattle.lines.proofs.entry_lines.Goals as goal

@@ -1,18 +1,16 @@
 -- `lowering::lower_and_limit` meets its contract. The loop's invariant: the motors up to i are filled with the rule's,
 -- and the others are as they were. Assumes nothing.
 use mathlib.Core.Path.{◌≡◌, refl, sym, ◌∙◌}
-use mathlib.Core.Bool.{cond}
 use mathlib.Core.List.{List, map, map-map}
-use Prim.Native.Nat.{◌-◌, ◌≤◌}
 use native.Mathlib.Omega.{arith}
 use lib.ListN.{length, get_or, length-set}
-use lib.Ieee.{Float, nan, lt}
+use lib.Ieee.{Float, nan}
 use borrow.Author.Rules.{scaled_Fits}
-use Rattle.binary32.specs.Arithmetic.{◌-f◌, 0f, 1f}
+use Rattle.binary32.specs.Arithmetic.{0f}
 use Rattle.number.specs.Treat.{floor_clamp}
 use Rattle.rules.specs.Extremes.{largest}
 use Rattle.rules.specs.Plain.{lowered_by, lowered, lower_limited}
-use Rattle.general.proofs.Filled.{filled, fill_in_place, filled_in_place}
+use Rattle.general.proofs.Filled.{fill_in_place, filled_in_place}
 use Rattle.lowering.proofs.Taken.{excess_taken_lem}
 use Rattle.lowering.proofs.lower_and_limit.Invariants.{lower_one}
 use Rattle.lowering.proofs.lower_and_limit.Goals as goal

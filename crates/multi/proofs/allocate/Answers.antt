@@ -1,19 +1,13 @@
 -- `multi::allocate` meets its contract. The loop's invariant: the outputs up to i are filled with the rule's motors,
 -- and the others are as they were. Assumes nothing.
-use mathlib.Core.Path.{◌≡◌, refl, ◌∙◌}
-use mathlib.Core.List.{map}
-use Prim.Native.Nat.{◌-◌, ◌≤◌, ◌<◌}
+use mathlib.Core.Path.{refl, ◌∙◌}
+use Prim.Native.Nat.{◌<◌}
 use native.Mathlib.Omega.{arith}
 use lib.ListN.{length, length-set}
-use lib.Ieee.{Float, nan}
+use lib.Ieee.{nan}
 use borrow.Author.Rules.{scaled_Fits}
-use Rattle.number.specs.Treat.{unit_clamp}
-use Rattle.rules.specs.Rows.{Row, rows_of}
-use Rattle.rules.specs.Plain.{raw_sum}
 use Rattle.rules.specs.Multi.{wrench_motors}
-use Rattle.general.proofs.Filled.{filled}
 use Rattle.rules.proofs.Runs.{fill_from_row, filled_from_rows}
-use Rattle.multi.specs.declared.Wrench.{Wrench}
 use Rattle.multi.proofs.allocate.Invariants.{motor_of}
 use Rattle.multi.proofs.allocate.Goals as goal
 

@@ -1,18 +1,14 @@
 -- `multi::allocate` meets its contract. The loop's invariant: the outputs up to i are filled with the rule's motors,
 -- and the others are as they were. Assumes nothing.
-use mathlib.Core.Path.{◌≡◌, refl, ◌∙◌}
+use mathlib.Core.Path.{◌≡◌}
 use mathlib.Core.List.{map}
-use Prim.Native.Nat.{◌-◌, ◌≤◌, ◌<◌}
-use native.Mathlib.Omega.{arith}
-use lib.ListN.{length, length-set}
-use lib.Ieee.{Float, nan}
-use borrow.Author.Rules.{rules, scaled_Fits}
+use Prim.Native.Nat.{◌-◌, ◌≤◌}
+use lib.ListN.{length}
+use lib.Ieee.{Float}
 use Rattle.number.specs.Treat.{unit_clamp}
 use Rattle.rules.specs.Rows.{Row, rows_of}
 use Rattle.rules.specs.Plain.{raw_sum}
-use Rattle.rules.specs.Multi.{wrench_motors}
 use Rattle.general.proofs.Filled.{filled}
-use Rattle.rules.proofs.Runs.{fill_from_row, filled_from_rows}
 use Rattle.multi.specs.declared.Wrench.{Wrench}
 use Rattle.multi.proofs.allocate.Given as goal
 
@@ -22,7 +18,8 @@ motor_of w row = unit_clamp (raw_sum w.thrust w.roll w.pitch w.yaw row)
 
 abbrev pub invariant-loop-i : goal.invariant-loop-i
 invariant-loop-i l =
-    (l.i ≤ length l.initial.out) × (length l.out ≡ length l.initial.out) × (l.out ≡ filled l.initial.out (map (motor_of l.w) (rows_of l.rows)) l.i)
+    (l.i ≤ length l.initial.out) × (length l.out ≡ length l.initial.out)
+        × (l.out ≡ filled l.initial.out (map (motor_of l.w) (rows_of l.rows)) l.i)
 
 abbrev pub decreases-loop-i : goal.decreases-loop-i
 decreases-loop-i l = length l.initial.out - l.i

@@ -1,15 +1,12 @@
 -- `multi_thrust_floor::ask` meets its contract. The loop's invariant: the outputs up to i are filled with the rule's
 -- deltas, and the others are as they were. Assumes nothing.
-use mathlib.Core.Path.{◌≡◌, refl, ◌∙◌}
-use mathlib.Core.List.{map}
-use Prim.Native.Nat.{◌-◌, ◌≤◌, ◌<◌}
+use mathlib.Core.Path.{refl, ◌∙◌}
+use Prim.Native.Nat.{◌<◌}
 use native.Mathlib.Omega.{arith}
 use lib.ListN.{length, length-set}
 use lib.Ieee.{nan}
 use borrow.Author.Rules.{scaled_Fits}
-use Rattle.rules.specs.Rows.{rows_of}
-use Rattle.rules.specs.Command.{delta, deltas}
-use Rattle.general.proofs.Filled.{filled}
+use Rattle.rules.specs.Command.{deltas}
 use Rattle.rules.proofs.Runs.{fill_from_row, filled_from_rows}
 use Rattle.multi_thrust_floor.proofs.ask.Goals as goal
 

@@ -1,14 +1,11 @@
 -- `multi_thrust_floor::give` meets its contract. The loop's invariant: the numbers up to i are filled with the rule's
 -- motors, and the others are as they were. Assumes nothing.
-use mathlib.Core.Path.{◌≡◌, refl, ◌∙◌}
-use mathlib.Core.List.{map}
-use Prim.Native.Nat.{◌-◌, ◌≤◌}
+use mathlib.Core.Path.{refl, ◌∙◌}
 use native.Mathlib.Omega.{arith}
 use lib.ListN.{length, length-set}
 use lib.Ieee.{nan}
 use borrow.Author.Rules.{scaled_Fits}
-use Rattle.rules.specs.ThrustFloor.{scaled_motor}
-use Rattle.general.proofs.Filled.{filled, fill_in_place, filled_in_place}
+use Rattle.general.proofs.Filled.{fill_in_place, filled_in_place}
 use Rattle.multi_thrust_floor.proofs.give.Goals as goal
 
 pub offset_bounds-d-i : goal.offset_bounds-d-i

@@ -1,7 +1,7 @@
 -- `sheet::check_entries` meets its contract. The invariant: `end` is where the body of entry i has to begin, and what
 -- is told of the entries from i on is what is told of all. Assumes nothing.
 use mathlib.Core.Path.{◌≡◌, sym, ap, ap₂, ◌∙◌}
-use Prim.Native.Nat.{◌+◌, ◌-◌, ◌≤◌}
+use Prim.Native.Nat.{◌+◌, ◌≤◌}
 use native.Mathlib.Omega.{arith}
 use lib.ListN.{length}
 use Rattle.entries.specs.Layout.{count_of, body_size, body_at}
@@ -46,12 +46,14 @@ returns-then-end-sheet c =
     let s = c.args.sheet.now in
     let k = c.count-k in
     let last : c.loop-i.i ≡ count_of s = omega (arith, k.ensures) in
-    rw (← c.loop-i.invariant.2, k.ensures, last, told_end, end_accepted s (rw (c.loop-i.invariant.1, last) at c.if-end-sheet.true))
+    rw (← c.loop-i.invariant.2, k.ensures, last, told_end,
+        end_accepted s (rw (c.loop-i.invariant.1, last) at c.if-end-sheet.true))
 
 pub returns : goal.returns
 returns c =
     let s = c.args.sheet.now in
     let k = c.count-k in
     let last : c.loop-i.i ≡ count_of s = omega (arith, k.ensures) in
-    let differs : (body_at s (count_of s) ≡ length s → ⊥) = λ e. c.if-end-sheet.false (rw (c.loop-i.invariant.1, last) e) in
+    let differs : (body_at s (count_of s) ≡ length s → ⊥) =
+        λ e. c.if-end-sheet.false (rw (c.loop-i.invariant.1, last) e) in
     rw (← c.loop-i.invariant.2, k.ensures, last, told_end, end_refused s differs)

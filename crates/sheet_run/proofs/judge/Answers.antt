@@ -1,8 +1,6 @@
 -- `sheet_run::judge` meets its contract: a refused sheet stays refused, and of an accepted one the output's length
 -- decides. Assumes nothing.
-use mathlib.Core.Path.{◌≡◌, sym}
-use Rattle.refusals.specs.Numbers.{accepted}
-use Rattle.sheet.specs.Table.{judged}
+use mathlib.Core.Path.{sym}
 use Rattle.sheet.proofs.Verdicts.{accepted_number}
 use Rattle.sheet_run.proofs.Judged.{refused_before, output_short, output_fits}
 use Rattle.sheet_run.proofs.judge.Goals as goal
@@ -14,9 +12,11 @@ returns-in_default c =
 
 pub returns-then-room-count : goal.returns-then-room-count
 returns-then-room-count c =
-    sym (output_short _ _ (accepted_number c.check-v.ensures c.in-Accepted.is) (rw c.count.ensures at c.if-room-count.true))
+    sym (output_short _ _ (accepted_number c.check-v.ensures c.in-Accepted.is)
+        (rw c.count.ensures at c.if-room-count.true))
 
 pub returns : goal.returns
 returns c =
     rw c.in-Accepted.is
-    (sym (output_fits _ _ (accepted_number c.check-v.ensures c.in-Accepted.is) (rw c.count.ensures at c.if-room-count.false)))
+    (sym (output_fits _ _ (accepted_number c.check-v.ensures c.in-Accepted.is)
+        (rw c.count.ensures at c.if-room-count.false)))

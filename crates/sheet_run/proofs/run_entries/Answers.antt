@@ -1,20 +1,18 @@
 -- `sheet_run::run_entries` meets its contract. The invariant: the commands that are left, from the state and the place
 -- reached, give the whole run's state and output. Assumes nothing.
-use mathlib.Core.Path.{◌≡◌, refl, sym, ap, ◌∙◌, subst}
-use Prim.Native.Nat.{◌+◌, ◌*◌, ◌-◌, ◌≤◌, ◌<◌, ℕ}
+use mathlib.Core.Path.{◌≡◌, refl, sym, ap, ◌∙◌}
+use Prim.Native.Nat.{◌*◌, ◌-◌, ◌≤◌, ◌<◌, ℕ}
 use native.Mathlib.Omega.{arith}
-use lib.ListN.{length, length-take, length-drop}
-use borrow.Author.Rules.{rules}
+use lib.ListN.{length}
 use borrow.Rule.Slice.PartMut.{put_mid}
 use Rattle.wire.proofs.Part.{part_written}
 use Rattle.wire.specs.Bytes.{write_at}
 use Rattle.wire.proofs.LittleEndian.{write_at_length}
-use Rattle.entries.specs.Layout.{count_of, kind_of, rotor_of}
-use Rattle.entries.specs.Choice.{ChosenBy}
+use Rattle.entries.specs.Layout.{count_of}
 use Rattle.entries.specs.Entry.{command_with, command_at}
 use Rattle.entries.proofs.Chosen.{chosen_case}
-use Rattle.sheet.proofs.Accepted.{Accepted, is_accepted_lem, never_refused}
-use Rattle.sheet_run.specs.Run.{called, commands_from, commands_of, ran, answer_of, answers_of}
+use Rattle.sheet.proofs.Accepted.{is_accepted_lem, never_refused}
+use Rattle.sheet_run.specs.Run.{called, commands_from, ran, answer_of, answers_of}
 use Rattle.sheet_run.proofs.Methods.{gives_called}
 use Rattle.sheet_run.proofs.Judged.{output_fits}
 use Rattle.sheet_run.proofs.ByVerdict.{run_accepted}

@@ -1,14 +1,12 @@
 -- `text::write` meets its contract: a copy into the part from `at` on is a write at that place. Assumes nothing.
-use mathlib.Core.Path.{◌≡◌, sym, ap, ◌∙◌}
-use mathlib.Core.List.{List, ◌++◌, append_assoc}
+use mathlib.Core.Path.{◌≡◌, sym}
+use mathlib.Core.List.{List, append_assoc}
 use Prim.Native.Nat.{ℕ, ◌+◌, ◌-◌, ◌≤◌}
 use native.Mathlib.Omega.{arith}
-use lib.ListN.{length, take, drop}
-use lib.Seq.{take-length, drop-drop}
+use lib.ListN.{length}
 use borrow.Rule.Slice.PartMut.{put_mid, Post-is}
 use Rattle.wire.specs.Bytes.{write_at}
 use Rattle.wire.proofs.LittleEndian.{write_at_short, write_at_fits}
-use Rattle.wire.proofs.Part.{part_lent, part_back}
 use Rattle.text.proofs.write.Goals as goal
 
 pub returns-then-out-s : goal.returns-then-out-s

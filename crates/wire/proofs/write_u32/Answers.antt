@@ -1,9 +1,7 @@
 -- `wire::write_u32` meets its contract. The two halves that are written one after the other are a write of the number's
 -- four bytes. Assumes nothing.
 use mathlib.Core.Path.{sym, ◌∙◌}
-use Prim.Native.Nat.{◌+◌, ◌≤◌}
 use native.Mathlib.Omega.{arith}
-use lib.ListN.{length}
 use borrow.Author.Tests.{leb-true, leb-false}
 use Rattle.wire.proofs.LittleEndian.{write_at_bytes_of_add, write_at_bytes_of_short}
 use Rattle.wire.proofs.write_u32.Goals as goal

@@ -1,7 +1,6 @@
 -- `words::same` meets its contract. The loop's invariant: the words passed agree. Assumes nothing.
-use Prim.Native.Nat.{ℕ, ◌≤◌, ◌-◌}
+use Prim.Native.Nat.{ℕ}
 use mathlib.Core.Path.{◌≡◌, refl, sym, ap, ◌∙◌}
-use mathlib.Core.Bool.{true}
 use native.Mathlib.Omega.{arith}
 use Rattle.words.specs.Words.{agree}
 use Rattle.words.proofs.Agree.{agree_more, agree_differs}

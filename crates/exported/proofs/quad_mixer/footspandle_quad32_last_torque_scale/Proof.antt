@@ -18,4 +18,5 @@ footspandle_quad32_last_torque_scale_spec 𝓤 𝓛 𝓜 𝓡 wired =
     reads Q.the_type Q'.the_laws Q'.the_copy 𝓛 𝓜 𝓡 f32-field f32-laws f-key.name g-def.name 𝓡.env
     (code.unfolded 𝓤 𝓛.H 𝓜 𝓡 wired) (𝓡.env g-def.name) refl
     (g.clauses 𝓛 𝓜.mem 𝓡.returns) (f.clauses 𝓛 𝓜.mem 𝓡.returns) _ (λ h. tt)
-    (λ h. refl) (λ h z e. refl) (λ κs x g z. refl) (g-thm.met 𝓤 𝓛 𝓜 𝓡 (code.calls-quad::QuadMixer::last_torque_scale 𝓡.env wired))
+    (λ h. refl) (λ h z e. refl) (λ κs x g z. refl)
+    (g-thm.met 𝓤 𝓛 𝓜 𝓡 (code.calls-quad::QuadMixer::last_torque_scale 𝓡.env wired))

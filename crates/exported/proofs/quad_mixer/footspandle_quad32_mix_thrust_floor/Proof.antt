@@ -17,4 +17,5 @@ footspandle_quad32_mix_thrust_floor_spec 𝓤 𝓛 𝓜 𝓡 wired =
     lends Q.the_type Q'.the_laws 𝓛 𝓜 𝓡 with_floor f-key.name g-def.name 𝓡.env
     (code.unfolded 𝓤 𝓛.H 𝓜 𝓡 wired) (𝓡.env g-def.name) refl
     (g.clauses 𝓛 𝓜.mem 𝓡.returns) (f.clauses 𝓛 𝓜.mem 𝓡.returns) _ (λ κs h a. tt)
-    (λ κs h a. refl) (λ κs h a r e. refl) (λ κs x a g ws r. refl) (g-thm.met 𝓤 𝓛 𝓜 𝓡 (code.calls-exported::quad_mixer::after_thrust_floor 𝓡.env wired))
+    (λ κs h a. refl) (λ κs h a r e. refl) (λ κs x a g ws r. refl)
+    (g-thm.met 𝓤 𝓛 𝓜 𝓡 (code.calls-exported::quad_mixer::after_thrust_floor 𝓡.env wired))

@@ -1,8 +1,6 @@
 -- `operations::list::compare` is safe and ends. The loop's invariant: at most as many records were passed as there are,
 -- and at most as many differ as were passed. The measure is how many are left. Assumes nothing.
 use Prim.Native.Nat.{◌≤◌, ◌-◌}
-use mathlib.Core.Logic.{⊎_elim}
-use native.Mathlib.Omega.{arith}
 use Rattle.operations.proofs.list.compare.Given as goal
 
 abbrev pub invariant-loop-i : goal.invariant-loop-i

@@ -1,7 +1,5 @@
 -- `replay::frames::matrix` is safe and ends: the loop counts the words. Assumes nothing.
-use Prim.Native.Nat.{◌≤◌, ◌-◌}
-use mathlib.Core.Path.{◌≡◌}
-use lib.ListN.{length, length-set}
+use lib.ListN.{length-set}
 use native.Mathlib.Omega.{arith}
 use Rattle.replay.proofs.frames.matrix.Goals as goal
 

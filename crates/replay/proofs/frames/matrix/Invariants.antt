@@ -1,8 +1,7 @@
 -- `replay::frames::matrix` is safe and ends: the loop counts the words. Assumes nothing.
 use Prim.Native.Nat.{◌≤◌, ◌-◌}
 use mathlib.Core.Path.{◌≡◌}
-use lib.ListN.{length, length-set}
-use native.Mathlib.Omega.{arith}
+use lib.ListN.{length}
 use Rattle.replay.proofs.frames.matrix.Given as goal
 
 abbrev pub invariant-loop-i : goal.invariant-loop-i

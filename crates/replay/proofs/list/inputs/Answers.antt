@@ -1,7 +1,5 @@
 -- `replay::list::inputs` is safe and ends: the loop counts the words. Assumes nothing.
-use Prim.Native.Nat.{◌≤◌, ◌-◌}
-use mathlib.Core.Path.{◌≡◌}
-use lib.ListN.{length, length-set}
+use lib.ListN.{length-set}
 use native.Mathlib.Omega.{arith}
 use Rattle.replay.proofs.list.inputs.Goals as goal
 

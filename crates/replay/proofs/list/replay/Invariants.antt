@@ -2,9 +2,7 @@
 -- as many records as bytes passed, and at most as many differences as records. The measure is what is left of the list.
 -- Assumes nothing.
 use Prim.Native.Nat.{◌≤◌, ◌-◌, ◌+◌}
-use mathlib.Core.Logic.{⊎_elim}
 use lib.ListN.{length}
-use native.Mathlib.Omega.{arith}
 use Rattle.replay.proofs.list.replay.Given as goal
 
 abbrev pub invariant-loop-at : goal.invariant-loop-at
