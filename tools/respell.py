@@ -5,10 +5,10 @@ usage: tools/respell.py            at the top, once, right after the kit's port.
        tools/respell.py --list     prints the old and the new name of each, and writes nothing
 
 What is renamed: each name with a dash or in lower camel case that stands in a file of definitions or of laws
-(crates/*/specs/*.antt, crates/*/proofs/*.antt) and comes from no library; then everywhere it is used: in those files, in
-the functions' proofs, in clauses and `ghost use` lines of src/, between backticks in comments, in wrong programs and in
-documents. What keeps its name: functions of src/, types, modules, and the names that Rattle makes. Where a definition and
-a law on it would fall together, the law gets `_lem` after its name.
+(crates/*/specs/*.antt, crates/*/proofs/*.antt) and comes from no library; then everywhere it is used: in those files,
+in the functions' proofs, in clauses and `ghost use` lines of src/, between backticks in comments, in wrong programs and
+in documents. What keeps its name: functions of src/, types, modules, and the names that Rattle makes. Where a
+definition and a law on it would fall together, the law gets `_lem` after its name.
 """
 import collections
 import os
@@ -16,6 +16,7 @@ import re
 import sys
 
 WORD = re.compile(r"[^\s(){};,⌜⌝\[\]\"λ.`]+")
+SPEC = re.compile(r"(?m)^((?:pub )?)([\w-]+)-spec\b")
 USE = re.compile(r"^\s*(?:pub )?use ([^\s{]+?)\.\{([^}]*)\}", re.M)
 # Names that the rule would give a name which stands in their file already.
 BY_HAND = {
@@ -106,7 +107,8 @@ def turned_rt(text, new):
     for line in text.split("\n"):
         if "//" in line:
             head, tail = line.split("//", 1)
-            line = (renamed(head, new) if head.strip() else head) + "//" + renamed(tail, new, everywhere=False)
+            head = renamed(head, new) if head.strip() else head
+            line = head + "//" + renamed(tail, new, everywhere=False)
         else:
             line = renamed(line, new)
         out.append(line)
@@ -134,7 +136,7 @@ def main():
             here = [names for folder, names in IN_FOLDER.items() if path.startswith(folder)]
             after = turned_antt(text, {**new, **(here[0] if here else {})})
             if path.endswith("/Proof.antt"):
-                after = re.sub(r"(?m)^((?:pub )?)([\w-]+)-spec\b", lambda m: m.group(1) + m.group(2).replace("-", "_") + "_spec", after)
+                after = SPEC.sub(lambda m: m.group(1) + m.group(2).replace("-", "_") + "_spec", after)
         elif path.endswith(".rt"):
             after = turned_rt(text, new)
         else:

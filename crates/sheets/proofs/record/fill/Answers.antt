@@ -1,8 +1,6 @@
 -- `sheets::record::fill` is safe and ends: the loop counts the bytes. Assumes nothing.
-use mathlib.Core.Path.{◌≡◌}
-use Prim.Native.Nat.{◌≤◌, ◌-◌}
 use native.Mathlib.Omega.{arith}
-use lib.ListN.{length, length-set}
+use lib.ListN.{length-set}
 use Rattle.sheets.proofs.record.fill.Goals as goal
 
 pub loop-j-preserved : goal.loop-j-preserved

@@ -1,8 +1,7 @@
 -- `sheets::record::fill` is safe and ends: the loop counts the bytes. Assumes nothing.
 use mathlib.Core.Path.{◌≡◌}
 use Prim.Native.Nat.{◌≤◌, ◌-◌}
-use native.Mathlib.Omega.{arith}
-use lib.ListN.{length, length-set}
+use lib.ListN.{length}
 use Rattle.sheets.proofs.record.fill.Given as goal
 
 abbrev pub invariant-loop-j : goal.invariant-loop-j

@@ -2,8 +2,6 @@
 -- many records as bytes passed, and at most as many differences as records. The measure is what is left of the list.
 -- Assumes nothing.
 use Prim.Native.Nat.{◌≤◌, ◌-◌, ◌+◌}
-use mathlib.Core.Logic.{⊎_elim}
-use native.Mathlib.Omega.{arith}
 use lib.ListN.{length}
 use Rattle.sheets.proofs.walk.replay.Given as goal
 
