@@ -39,7 +39,7 @@ after_airmode before torque thrust idle = state (airmode_motors quad_rows torque
 abbrev pub AirmodeGives : QuadMixer → List Float → Float → Float → QuadMixer → Type 0
 AirmodeGives before torque thrust idle =
     QuadMixed (after_airmode before torque thrust idle)
-        (λ motors scale. AirmodeKeeps quad_rows torque thrust idle motors)
+    (λ motors scale. AirmodeKeeps quad_rows torque thrust idle motors)
 
 -- ---- thrust-floor: "The scale is recorded; it may be -0."
 

@@ -14,10 +14,10 @@ returns-in_default c =
 pub returns-then-i-count : goal.returns-then-i-count
 returns-then-i-count c =
     sym (none_placed _ _ (none_past _ _ (accepted_number c.check.ensures c.in-Accepted.is)
-        (rw c.count.ensures at c.if-i-count.true)))
+    (rw c.count.ensures at c.if-i-count.true)))
 
 pub returns : goal.returns
 returns c =
     rw (c.body_size.ensures, c.kind.ensures, c.offset.ensures)
     (sym (body_placed _ _
-        (body_under _ _ (accepted_number c.check.ensures c.in-Accepted.is) (rw c.count.ensures at c.if-i-count.false))))
+    (body_under _ _ (accepted_number c.check.ensures c.in-Accepted.is) (rw c.count.ensures at c.if-i-count.false))))

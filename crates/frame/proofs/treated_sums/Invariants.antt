@@ -18,7 +18,7 @@ sum_of t r p y row = treated (raw_sum t r p y row)
 abbrev pub invariant-loop-i : goal.invariant-loop-i
 invariant-loop-i l =
     (l.i ≤ length l.initial.m) × (length l.m ≡ length l.initial.m)
-        × (l.m ≡ filled l.initial.m (map (sum_of l.t l.r l.p l.y) (rows_of l.rows)) l.i)
+    × (l.m ≡ filled l.initial.m (map (sum_of l.t l.r l.p l.y) (rows_of l.rows)) l.i)
 
 abbrev pub decreases-loop-i : goal.decreases-loop-i
 decreases-loop-i l = length l.initial.m - l.i

@@ -10,7 +10,7 @@ abbrev pub invariant-loop-i : goal.invariant-loop-i
 invariant-loop-i l =
     (l.i ≤ l.k) × (l.at ≤ 53 * l.i) × (l.at ≤ length l.text)
     × ((after : List ℕ) (r : ℕ)
-        → Put (53 * (l.k - l.i)) (lines_from l.sheet l.answers l.i (l.k - l.i)) l.text l.at after r
+    → Put (53 * (l.k - l.i)) (lines_from l.sheet l.answers l.i (l.k - l.i)) l.text l.at after r
     → Put (53 * l.k) (lines_from l.sheet l.answers 0 l.k) l.initial.text 0 after r)
 
 abbrev pub decreases-loop-i : goal.decreases-loop-i

@@ -21,7 +21,7 @@ lower_one xs x = floor_clamp (lowered_by (largest xs) x) 0f
 abbrev pub invariant-loop-i : goal.invariant-loop-i
 invariant-loop-i l =
     (l.over ≡ cond (lt 1f (largest l.initial.m)) (largest l.initial.m -f 1f) 0f) × (l.i ≤ length l.initial.m)
-        × (length l.m ≡ length l.initial.m)
+    × (length l.m ≡ length l.initial.m)
     × (l.m ≡ filled l.initial.m (map (lower_one l.initial.m) l.initial.m) l.i)
 
 abbrev pub decreases-loop-i : goal.decreases-loop-i

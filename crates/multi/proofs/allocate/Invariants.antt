@@ -19,7 +19,7 @@ motor_of w row = unit_clamp (raw_sum w.thrust w.roll w.pitch w.yaw row)
 abbrev pub invariant-loop-i : goal.invariant-loop-i
 invariant-loop-i l =
     (l.i ≤ length l.initial.out) × (length l.out ≡ length l.initial.out)
-        × (l.out ≡ filled l.initial.out (map (motor_of l.w) (rows_of l.rows)) l.i)
+    × (l.out ≡ filled l.initial.out (map (motor_of l.w) (rows_of l.rows)) l.i)
 
 abbrev pub decreases-loop-i : goal.decreases-loop-i
 decreases-loop-i l = length l.initial.out - l.i

@@ -12,7 +12,7 @@ use Rattle.multi_thrust_floor.proofs.ask.Given as goal
 abbrev pub invariant-loop-i : goal.invariant-loop-i
 invariant-loop-i l =
     (l.i ≤ length l.initial.out) × (length l.out ≡ length l.initial.out)
-        × (l.out ≡ filled l.initial.out (map (delta l.r l.p l.y) (rows_of l.rows)) l.i)
+    × (l.out ≡ filled l.initial.out (map (delta l.r l.p l.y) (rows_of l.rows)) l.i)
 
 abbrev pub decreases-loop-i : goal.decreases-loop-i
 decreases-loop-i l = length l.initial.out - l.i

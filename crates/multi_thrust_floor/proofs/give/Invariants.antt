@@ -11,7 +11,7 @@ use Rattle.multi_thrust_floor.proofs.give.Given as goal
 abbrev pub invariant-loop-i : goal.invariant-loop-i
 invariant-loop-i l =
     (l.i ≤ length l.initial.d) × (length l.d ≡ length l.initial.d)
-        × (l.d ≡ filled l.initial.d (map (scaled_motor l.floor l.base l.s) l.initial.d) l.i)
+    × (l.d ≡ filled l.initial.d (map (scaled_motor l.floor l.base l.s) l.initial.d) l.i)
 
 abbrev pub decreases-loop-i : goal.decreases-loop-i
 decreases-loop-i l = length l.initial.d - l.i

@@ -22,28 +22,28 @@ pub returns-then-count-gt-MAX_ENTRIES : goal.returns-then-count-gt-MAX_ENTRIES
 returns-then-count-gt-MAX_ENTRIES c =
     sym (told_of_head _ TooMany
     (too_many_lem _ c.if-sheet-lt4.false (sym c.version.ensures ∙ c.if-version-ne1.false)
-        (rw c.count.ensures at c.if-count-gt-MAX_ENTRIES.true)))
+    (rw c.count.ensures at c.if-count-gt-MAX_ENTRIES.true)))
 
 pub returns-then-length_field-sheet : goal.returns-then-length_field-sheet
 returns-then-length_field-sheet c =
     sym (told_of_head _ BadLength
-        (length_differs _ c.if-sheet-lt4.false (sym c.version.ensures ∙ c.if-version-ne1.false)
-        (rw c.count.ensures at c.if-count-gt-MAX_ENTRIES.false)
+    (length_differs _ c.if-sheet-lt4.false (sym c.version.ensures ∙ c.if-version-ne1.false)
+    (rw c.count.ensures at c.if-count-gt-MAX_ENTRIES.false)
     (λ e. c.if-length_field-sheet.true (c.length_field.ensures ∙ e))))
 
 pub returns-then-sheet-entry_at : goal.returns-then-sheet-entry_at
 returns-then-sheet-entry_at c =
     let cut = rw (c.entry_at.ensures, c.count-2.ensures) at c.if-sheet-entry_at.true in
     sym (told_of_head _ BadLength
-        (contents_cut _ c.if-sheet-lt4.false (sym c.version.ensures ∙ c.if-version-ne1.false)
-        (rw c.count.ensures at c.if-count-gt-MAX_ENTRIES.false) (sym c.length_field.ensures
-        ∙ c.if-length_field-sheet.false) cut))
+    (contents_cut _ c.if-sheet-lt4.false (sym c.version.ensures ∙ c.if-version-ne1.false)
+    (rw c.count.ensures at c.if-count-gt-MAX_ENTRIES.false) (sym c.length_field.ensures
+    ∙ c.if-length_field-sheet.false) cut))
 
 pub returns : goal.returns
 returns c =
     let enough = rw (c.entry_at.ensures, c.count-2.ensures) at c.if-sheet-entry_at.false in
     c.check_entries.ensures
     ∙ sym (told_of_entries _
-        (head_passes _ c.if-sheet-lt4.false (sym c.version.ensures ∙ c.if-version-ne1.false)
-        (rw c.count.ensures at c.if-count-gt-MAX_ENTRIES.false) (sym c.length_field.ensures
-        ∙ c.if-length_field-sheet.false) enough))
+    (head_passes _ c.if-sheet-lt4.false (sym c.version.ensures ∙ c.if-version-ne1.false)
+    (rw c.count.ensures at c.if-count-gt-MAX_ENTRIES.false) (sym c.length_field.ensures
+    ∙ c.if-length_field-sheet.false) enough))

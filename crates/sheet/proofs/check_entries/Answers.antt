@@ -46,8 +46,13 @@ returns-then-end-sheet c =
     let s = c.args.sheet.now in
     let k = c.count-k in
     let last : c.loop-i.i ≡ count_of s = omega (arith, k.ensures) in
-    rw (← c.loop-i.invariant.2, k.ensures, last, told_end,
-        end_accepted s (rw (c.loop-i.invariant.1, last) at c.if-end-sheet.true))
+    rw (
+      ← c.loop-i.invariant.2,
+      k.ensures,
+      last,
+      told_end,
+      end_accepted s (rw (c.loop-i.invariant.1, last) at c.if-end-sheet.true),
+    )
 
 pub returns : goal.returns
 returns c =
@@ -55,5 +60,5 @@ returns c =
     let k = c.count-k in
     let last : c.loop-i.i ≡ count_of s = omega (arith, k.ensures) in
     let differs : (body_at s (count_of s) ≡ length s → ⊥) =
-        λ e. c.if-end-sheet.false (rw (c.loop-i.invariant.1, last) e) in
+    λ e. c.if-end-sheet.false (rw (c.loop-i.invariant.1, last) e) in
     rw (← c.loop-i.invariant.2, k.ensures, last, told_end, end_refused s differs)

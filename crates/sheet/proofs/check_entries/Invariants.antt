@@ -9,7 +9,7 @@ use Rattle.sheet.proofs.check_entries.Given as goal
 abbrev pub invariant-loop-i : goal.invariant-loop-i
 invariant-loop-i l =
     (l.i ≤ l.k) × (l.end ≡ body_at l.sheet l.i)
-        × (entries_told l.sheet l.i (l.k - l.i) ≡ entries_told l.sheet 0 (count_of l.sheet))
+    × (entries_told l.sheet l.i (l.k - l.i) ≡ entries_told l.sheet 0 (count_of l.sheet))
 
 abbrev pub decreases-loop-i : goal.decreases-loop-i
 decreases-loop-i l = l.k - l.i

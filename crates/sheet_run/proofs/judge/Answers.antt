@@ -13,10 +13,10 @@ returns-in_default c =
 pub returns-then-room-count : goal.returns-then-room-count
 returns-then-room-count c =
     sym (output_short _ _ (accepted_number c.check-v.ensures c.in-Accepted.is)
-        (rw c.count.ensures at c.if-room-count.true))
+    (rw c.count.ensures at c.if-room-count.true))
 
 pub returns : goal.returns
 returns c =
     rw c.in-Accepted.is
     (sym (output_fits _ _ (accepted_number c.check-v.ensures c.in-Accepted.is)
-        (rw c.count.ensures at c.if-room-count.false)))
+    (rw c.count.ensures at c.if-room-count.false)))

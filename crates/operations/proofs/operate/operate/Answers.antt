@@ -5,8 +5,12 @@ use native.Mathlib.Omega.{arith}
 use Rattle.operations.proofs.operate.operate.Goals as goal
 
 pub returns-in-1 : goal.returns-in-1
-returns-in-1 c = ((λ e. refl), (λ e. absurd (omega arith)), (λ e. absurd (omega arith)),
-    (λ other. absurd (other (omega arith))))
+returns-in-1 c = (
+  (λ e. refl),
+  (λ e. absurd (omega arith)),
+  (λ e. absurd (omega arith)),
+  (λ other. absurd (other (omega arith))),
+)
 
 pub returns-in-2 : goal.returns-in-2
 returns-in-2 c =
