@@ -102,16 +102,13 @@ def renamed(text, new, everywhere=True):
 
 
 def turned_rt(text, new):
-    """Clauses and `ghost use` lines whole; in comments what stands between backticks."""
+    """Clauses and `ghost use` lines whole, but for strings; in comments what stands between backticks."""
     out = []
     for line in text.split("\n"):
-        if "//" in line:
-            head, tail = line.split("//", 1)
-            head = renamed(head, new) if head.strip() else head
-            line = head + "//" + renamed(tail, new, everywhere=False)
-        else:
-            line = renamed(line, new)
-        out.append(line)
+        head, mark, tail = line.partition("//")
+        parts = re.split(r'("[^"]*")', head)
+        head = "".join(part if part.startswith('"') else renamed(part, new) for part in parts)
+        out.append(head + mark + renamed(tail, new, everywhere=False))
     return "\n".join(out)
 
 

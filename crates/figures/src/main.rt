@@ -48,17 +48,17 @@ fn thrust_floor() {
     let q = QuadMixer::new();
     print_state(
         5,
-        b"thrust_floor",
+        b"thrust-floor",
         q.mix_thrust_floor([0.125, 0.125, 0.0], 0.5, 0.25),
     );
     print_state(
         6,
-        b"thrust_floor",
+        b"thrust-floor",
         q.mix_thrust_floor([0.5, 0.0, 0.0], 0.5, 0.25),
     );
     print_state(
         7,
-        b"thrust_floor",
+        b"thrust-floor",
         q.mix_thrust_floor([0.5, 0.0, 0.0], -0.0, 0.0),
     );
 }
