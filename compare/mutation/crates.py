@@ -31,7 +31,7 @@ def listed_crates():
         line = line.split('#')[0].strip()
         if line:
             name, names = line.split(':')
-            crates[name.strip()] = names.split()
+            crates[name.split()[0]] = names.split()
     return crates
 
 CRATES = listed_crates()

@@ -20,8 +20,8 @@ SPEC_CONSTANTS = {'0f': ('1f',), '1f': ('0f', 'small'), 'small': ('0f', '1f'), '
 def brought_in(text):
     names = set()
     for match in re.finditer(r'^use [^{\n]*\{([^}]*)\}', text, re.M):
-        names.update(name.strip().strip('_') for name in match.group(1).split(','))
-    names.update(name.strip('_') for name in re.findall(r'^(?:unfoldable |abbrev )?(?:pub )?(\S+) : ', text, re.M))
+        names.update(name.strip().strip('◌') for name in match.group(1).split(','))
+    names.update(name.strip('◌') for name in re.findall(r'^(?:unfoldable |abbrev )?(?:pub )?(\S+) : ', text, re.M))
     return names
 
 # The definitions of a file: name, type and the places of what it says, from one line to the next that begins anew.

@@ -291,8 +291,9 @@ def walked(function):
 # for another.
 def contract_edits(source, function):
     at, floats = source.text.index(function.contract), [name for name, of in function.parameters if of == 'f32']
-    others = {'exit': ['entry'], **{name: [other for other in floats if other != name] for name in floats}}
-    found = [(match, new) for word in others for match in re.finditer(rf'\b{word}\b', function.contract)
+    others = {r'(?<=\.)new': ['old'],
+              **{rf'\b{name}': [other for other in floats if other != name] for name in floats}}
+    found = [(match, new) for word in others for match in re.finditer(rf'{word}\b', function.contract)
              for new in others[word]]
     return [Mutant(source.crate, source.file, source.text, at + match.start(), at + match.end(), new, 'contract',
                    function.called) for match, new in found]

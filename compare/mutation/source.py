@@ -75,7 +75,7 @@ class Source:
         while i < len(t):
             word = t[i].text
             if word == '#':
-                i = after_bracket(t, i + 1)
+                i = after_bracket(t, i + 2 if t[i + 1].text == '!' else i + 1)
             elif word == 'pub':
                 public = t[i + 1].text != '('
                 i = i + 1 if public else after_bracket(t, i + 1)
@@ -90,7 +90,7 @@ class Source:
                 while t[i].text != ';':
                     i += 1
                 if word == 'use':
-                    self.uses.append([x.text for x in t[start:i] if x.kind == 'name'])
+                    self.uses += paths_of(t[start:i])
                 i, public = i + 1, False
             elif word == 'struct':
                 name, end = t[i + 1].text, after_bracket(t, i + 2)
@@ -135,7 +135,9 @@ class Source:
             result = type_text(t[start:i])
         start = i
         while t[i].text != '{':
-            i = after_bracket(t, i + 1)
+            while t[i].text != '{':  # a clause can have a name
+                i += 1
+            i = after_bracket(t, i)
         contract = self.text[t[start].start:t[i].start]
         end = after_bracket(t, i)
         self.functions.append(Function(name, public, parameters, result, contract, t[i + 1:end - 1], owner))
@@ -161,6 +163,15 @@ def parameters_of(tokens, owner):
         part = part[1:] if part[0].text == 'mut' else part
         found.append(('self', owner) if part[-1].text == 'self' else (part[0].text, type_text(part[2:])))
     return found
+
+# The paths that a `use` line brings, each as its names: a::{b, c::d} is two.
+def paths_of(tokens):
+    group = next((i for i, token in enumerate(tokens) if token.text == '{'), None)
+    if group is None:
+        return [[token.text for token in tokens if token.kind == 'name']]
+    head = [token.text for token in tokens[:group] if token.kind == 'name']
+    parts = split(tokens[group + 1:after_bracket(tokens, group) - 1], ',')
+    return [head + path for part in parts for path in paths_of(part)]
 
 def fields_of(tokens):
     fields = {}
