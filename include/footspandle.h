@@ -37,7 +37,7 @@
  *    (A debugger may stop on the invalid flag all the same: docs/COMPARISON.md, 'The invalid flag', has what
  *    raises it. On x86-64 none of the NaNs and infinities tried as arguments of the quad's mixes does where +0
  *    in its place would not.)
- * 6. There is room for a call: at most 352 bytes of stack (x86-64; compare/stack prints it for each
+ * 6. There is room for a call: at most 372 bytes of stack (x86-64; compare/stack prints it for each
  *    function). Some of them can lie under the stack pointer, in the 128 bytes that the System V ABI keeps
  *    from interrupts. Nothing is allocated anywhere else.
  *
