@@ -27,8 +27,8 @@ const EXPONENTS: u32 = 256;
 const ALL_ONES: u32 = 255;
 
 // Whether x is neither a NaN nor an infinity, by the exponent's field of its bits. The language has no bits of a NaN,
-// so that one is told first, by a comparison that a compiler can leave out again, since the field tells it too
-// (decisions 130 and 131). This is the one test for it; nothing that calls it looks into it.
+// so that one is told first, by a comparison that a compiler could leave out again, since the field tells it too, and
+// that today's keeps (decisions 130 and 148). This is the one test for it; nothing that calls it looks into it.
 pub fn is_finite(x: f32) -> bool
     ensures { result ≡ finite x }
 {

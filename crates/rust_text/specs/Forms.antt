@@ -1,7 +1,7 @@
 -- The forms of Rust that its mixers are written in, so that a line of the Rust and its line here can be read side by
 -- side. An array is the list of its elements; a variable that changes is a name that is given anew; `let x = e;` is
 -- `let x = e in`. The Rust's lines are quoted with their numbers in its file. Definitions only.
-use Rattle.std.specs.Prelude.{Bool, cond, List, [], ◌∷◌, ℕ, zero, suc, get_or, Float}
+use Rattle.std.specs.Prelude.{Bool, List, [], ◌∷◌, ℕ, zero, suc, get_or, Float}
 use Rattle.std.specs.Float.{nan}
 use Rattle.std.specs.Float.Ieee.{lt}
 
