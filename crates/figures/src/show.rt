@@ -3,7 +3,7 @@ use bits::bits_of;
 use quad::QuadMixer;
 
 // The number of standard output.
-const STDOUT_FILENO: i32 = 1;
+pub(crate) const STDOUT_FILENO: i32 = 1;
 
 // A line: the figure's number, the mix, and what the readers say of the state after it.
 pub(crate) fn print_state(figure: u64, mix: &[u8], after: QuadMixer) {

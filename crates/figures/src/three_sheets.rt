@@ -1,10 +1,8 @@
 // Document 01's three sheets through the call that `mixrun` makes: one thrust-floor entry, no entries, for which
 // nothing is printed, and 65 entries, which is refused.
+use crate::show::STDOUT_FILENO;
 use lines::TEXT;
 use report::text_of;
-
-// The number of standard output.
-const STDOUT_FILENO: i32 = 1;
 
 const ONE_ENTRY: [u8; 28] = [
     0x01, 0x01, 0x1c, 0x00, 0x01, 0x00, 0x08, 0x00, 0x00, 0x00, 0x00, 0x3f, 0x00, 0x00, 0x00, 0x3f,

@@ -10,13 +10,10 @@
 mod record;
 mod walk;
 
-use walk::{ROOM, replay};
+use walk::{ROOM, STDOUT_FILENO, replay};
 
 // The number of standard input.
 const STDIN_FILENO: i32 = 0;
-
-// The number of standard output.
-const STDOUT_FILENO: i32 = 1;
 
 fn main() {
     let mut list = [0u8; ROOM];

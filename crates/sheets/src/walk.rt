@@ -3,7 +3,7 @@ use crate::record::{agrees, part, size_of};
 use wire::read_u32;
 
 // The number of standard output.
-const STDOUT_FILENO: i32 = 1;
+pub(crate) const STDOUT_FILENO: i32 = 1;
 
 // How many bytes there is room for: more than the list has.
 pub(crate) const ROOM: usize = 393216;
