@@ -51,7 +51,7 @@ def used_by(code, crate, function_source, function):
 def public_functions(code, crate):
     return [(source, f) for source in code.of(crate) for f in source.functions if f.public]
 
-# The edits of a public function: of its contract, where it is walked by hand; of its own body; of what it uses; and
+# The edits of a public function: of its contract, over a struct that is lent; of its own body; of what it uses; and
 # last what it answers as a whole. Each part is in the order that the seed gives.
 def edits_of(code, source, function, shuffled):
     own, *used = used_by(code, source.crate, source, function)

@@ -282,8 +282,8 @@ def answers_in(source, function):
                 add(statement[0], statement[-1], f'*{stored} = {new}')
     return found
 
-# A function over a struct behind a reference is walked by hand, and a walk is about one code: another is refused as not
-# being that one (docs/DECISIONS.md, 74).
+# A function over a struct behind a reference was walked by hand when these edits were chosen, and a walk is about one
+# code: another was refused as not being that one (docs/DECISIONS.md, 74).
 def walked(function):
     return any(re.match(r'&\s*(mut)?\s*[A-Z]', of or '') for _, of in function.parameters)
 

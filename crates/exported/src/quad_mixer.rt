@@ -15,70 +15,22 @@ ghost use Rattle.quad.specs.State.{fresh};
 
 use quad::QuadMixer;
 
-// ---- the mixes by value, of a torque that is lent
-
 // A state as it is, its parts read one by one. A mix has just written them so, and a processor that reads at once what
-// was written in parts waits until they have reached its memory. (Plain's call is compiled away, and thrust-floor's
-// scale and sums are written at once: these two need it not. Decision 140.)
+// was written in parts waits until they have reached its memory. (Plain and thrust-floor go without: decision 140, where
+// the times stand that this copy by hand saves.)
 fn part_by_part(state: QuadMixer) -> QuadMixer
     ensures { result ≡ state }
 {
-    let motors = state.last_motors;
-    let torque = state.last_torque;
+    let QuadMixer {
+        last_motors,
+        last_torque_scale,
+        last_torque,
+    } = state;
     QuadMixer {
-        last_motors: motors,
-        last_torque_scale: state.last_torque_scale,
-        last_torque: torque,
+        last_motors,
+        last_torque_scale,
+        last_torque,
     }
-}
-
-fn after_plain(before: QuadMixer, torque_body: &[f32; 3], thrust: f32) -> QuadMixer
-    ensures { PlainGives before torque_body.now thrust result }
-{
-    let torque = *torque_body;
-    before.mix(torque, thrust)
-}
-
-fn after_thrust_floor(
-    before: QuadMixer,
-    torque_body: &[f32; 3],
-    thrust: f32,
-    floor: f32,
-) -> QuadMixer
-    ensures { ThrustFloorGives before torque_body.now thrust floor result }
-{
-    let torque = *torque_body;
-    before.mix_thrust_floor(torque, thrust, floor)
-}
-
-fn after_priority(before: QuadMixer, torque_body: &[f32; 3], thrust: f32, floor: f32) -> QuadMixer
-    ensures { PriorityGives before torque_body.now thrust floor result }
-{
-    let torque = *torque_body;
-    let after = before.mix_priority(torque, thrust, floor);
-    part_by_part(after)
-}
-
-fn after_airmode(before: QuadMixer, torque_body: &[f32; 3], thrust: f32, idle: f32) -> QuadMixer
-    ensures { AirmodeGives before torque_body.now thrust idle result }
-{
-    let torque = *torque_body;
-    let after = before.mix_airmode(torque, thrust, idle);
-    part_by_part(after)
-}
-
-fn after_rotor_out(
-    before: QuadMixer,
-    failed: usize,
-    torque_body: &[f32; 3],
-    thrust: f32,
-    floor: f32,
-) -> QuadMixer
-    ensures { RotorOutGives before failed torque_body.now thrust floor result }
-{
-    let torque = *torque_body;
-    let after = before.mix_rotor_out(failed, torque, thrust, floor);
-    part_by_part(after)
 }
 
 // ---- the state made, and read
@@ -88,34 +40,28 @@ fn after_rotor_out(
 pub extern "C" fn footspandle_quad32_new(state: &mut QuadMixer)
     ensures { state.new ≡ fresh }
 {
-    let new = QuadMixer::new();
-    *state = new;
+    *state = QuadMixer::new();
 }
 
 #[unsafe(no_mangle)]
 pub extern "C" fn footspandle_quad32_last_motors(state: &QuadMixer, motors: &mut [f32; 4])
     ensures { motors.new ≡ state.now.last_motors }
 {
-    let q = *state;
-    let last = q.last_motors();
-    *motors = last;
+    *motors = state.last_motors();
 }
 
 #[unsafe(no_mangle)]
 pub extern "C" fn footspandle_quad32_last_torque_scale(state: &QuadMixer) -> f32
     ensures { result ≡ state.now.last_torque_scale }
 {
-    let q = *state;
-    q.last_torque_scale()
+    state.last_torque_scale()
 }
 
 #[unsafe(no_mangle)]
 pub extern "C" fn footspandle_quad32_last_torque(state: &QuadMixer, sums: &mut [f32; 3])
     ensures { sums.new ≡ state.now.last_torque }
 {
-    let q = *state;
-    let last = q.last_torque();
-    *sums = last;
+    *sums = state.last_torque();
 }
 
 // ---- the mixes
@@ -124,9 +70,7 @@ pub extern "C" fn footspandle_quad32_last_torque(state: &QuadMixer, sums: &mut [
 pub extern "C" fn footspandle_quad32_mix(state: &mut QuadMixer, torque_body: &[f32; 3], thrust: f32)
     ensures { PlainGives state.old torque_body.now thrust state.new }
 {
-    let before = *state;
-    let after = after_plain(before, torque_body, thrust);
-    *state = after;
+    *state = state.mix(*torque_body, thrust);
 }
 
 #[unsafe(no_mangle)]
@@ -138,9 +82,7 @@ pub extern "C" fn footspandle_quad32_mix_thrust_floor(
 )
     ensures { ThrustFloorGives state.old torque_body.now thrust floor state.new }
 {
-    let before = *state;
-    let after = after_thrust_floor(before, torque_body, thrust, floor);
-    *state = after;
+    *state = state.mix_thrust_floor(*torque_body, thrust, floor);
 }
 
 #[unsafe(no_mangle)]
@@ -152,9 +94,7 @@ pub extern "C" fn footspandle_quad32_mix_priority(
 )
     ensures { PriorityGives state.old torque_body.now thrust floor state.new }
 {
-    let before = *state;
-    let after = after_priority(before, torque_body, thrust, floor);
-    *state = after;
+    *state = part_by_part(state.mix_priority(*torque_body, thrust, floor));
 }
 
 #[unsafe(no_mangle)]
@@ -166,9 +106,7 @@ pub extern "C" fn footspandle_quad32_mix_airmode(
 )
     ensures { AirmodeGives state.old torque_body.now thrust idle state.new }
 {
-    let before = *state;
-    let after = after_airmode(before, torque_body, thrust, idle);
-    *state = after;
+    *state = part_by_part(state.mix_airmode(*torque_body, thrust, idle));
 }
 
 #[unsafe(no_mangle)]
@@ -181,9 +119,7 @@ pub extern "C" fn footspandle_quad32_mix_rotor_out(
 )
     ensures { RotorOutGives state.old failed torque_body.now thrust floor state.new }
 {
-    let before = *state;
-    let after = after_rotor_out(before, failed, torque_body, thrust, floor);
-    *state = after;
+    *state = part_by_part(state.mix_rotor_out(failed, *torque_body, thrust, floor));
 }
 
 // ---- what motors give
@@ -192,6 +128,5 @@ pub extern "C" fn footspandle_quad32_mix_rotor_out(
 pub extern "C" fn footspandle_motors_to_torque_signs(motors: &[f32; 4], sums: &mut [f32; 3])
     ensures { sums.new ≡ torque_of quad_rows motors.now }
 {
-    let m = *motors;
-    *sums = quad::motors_to_torque_signs(m);
+    *sums = quad::motors_to_torque_signs(*motors);
 }
