@@ -12,12 +12,5 @@ pub const WORDS: usize = 128;
 pub fn same(a: &[u32; WORDS], b: &[u32; WORDS]) -> bool
     ensures { result ≡ agree 128 a.now b.now }
 {
-    let mut i = 0;
-    while i < WORDS {
-        if a[i] != b[i] {
-            return false;
-        }
-        i += 1;
-    }
-    true
+    a == b
 }
