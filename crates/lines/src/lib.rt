@@ -24,7 +24,7 @@ fn put(text: &mut [u8; TEXT], at: usize, part: &[u8]) -> usize
     requires { at + length part.now ≤ text_size }
     ensures { Put (length part.now) part.now text.old at text.new result }
 {
-    text::write(text, at, part);
+    wire::write(text, at, part);
     at + part.len()
 }
 

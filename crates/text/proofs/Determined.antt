@@ -1,5 +1,5 @@
--- Each public contract determines the lent bytes afterwards, and that of `write_decimal` the answer too: two results
--- that satisfy it are one. Assumes nothing.
+-- Each public contract determines the lent bytes afterwards, as that of `wire::write` does, and that of `write_decimal`
+-- the answer too: two results that satisfy it are one. Assumes nothing.
 use mathlib.Core.Path.{◌≡◌, sym, ◌∙◌}
 use mathlib.Core.List.{List}
 use Prim.Native.Nat.{ℕ, ◌≤◌}

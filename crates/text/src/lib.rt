@@ -8,18 +8,7 @@ ghost use Rattle.std.specs.Prelude.{◌≡◌, ◌≤◌, length};
 ghost use Rattle.wire.specs.Bytes.{write_at};
 ghost use Rattle.text.specs.Digits.{hex_of, decimal_of};
 
-// The bytes s at a place.
-pub fn write(out: &mut [u8], at: usize, s: &[u8])
-    ensures { out.new ≡ write_at out.old at s.now }
-{
-    if out.len() < s.len() {
-        return;
-    }
-    if out.len() - s.len() < at {
-        return;
-    }
-    out[at..at + s.len()].copy_from_slice(s);
-}
+use wire::write;
 
 // A float's bits as eight lower-case hex digits at a place.
 pub fn write_hex(out: &mut [u8], at: usize, bits: u32)

@@ -34,28 +34,6 @@ little_endian_bytes_of (suc k) {x} h =
     quotient : (x y : ℕ) → x < 256 * y → x / 256 < y
     quotient x y h = omega arith
 
--- the bytes of a number are those of its low part, and then those of what is over it
-pub bytes_of_add : (j k x : ℕ) → bytes_of (j + k) x ≡ bytes_of j x ++ bytes_of k (x / 256 ^ j)
-unfolding bytes_of
-bytes_of_add zero k x = rw (zero-add, div-one)
-bytes_of_add (suc j) k x = rw (suc-add, bytes_of_add j k, div-div-eq-div-mul, ← pow-succ')
-
--- 256 ^ k, by which the laws divide, is not 0
-positive : (k : ℕ) → 0 < 256 ^ k
-positive zero = omega arith
-positive (suc k) = let h : 0 < 256 ^ k = positive k in rw pow-succ' (omega arith)
-
--- the lowest j bytes are those of the remainder by 256 ^ j
-pub bytes_of_low : (j x : ℕ) → bytes_of j (x % 256 ^ j) ≡ bytes_of j x
-unfolding bytes_of
-bytes_of_low zero x = refl
-bytes_of_low (suc j) x = rw (pow-succ', mod-mod_of_dvd 256 x (dvd-mul_right 256 (256 ^ j)), upper, bytes_of_low j)
-  where
-    upper : x % (256 * 256 ^ j) / 256 ≡ x / 256 % 256 ^ j
-    upper =
-        let byte : x % 256 < 256 = omega arith in
-        rw (mul_comm 256 (256 ^ j), mod-mul x (positive j) (positive 1), digits_div (x / 256 % 256 ^ j) byte)
-
 -- ---- reading at a place
 
 -- the number of a run of bytes is that of its first j, and 256 ^ j times that of those after them
@@ -190,13 +168,6 @@ write_at_part out zero at bs h = rw zero-add
 write_at_part [] (suc n) at bs h = absurd (not-suc-le-zero h)
 write_at_part (b ∷ out) (suc n) at bs h = rw (suc-add, write_at_cons, write_at_part out n at bs (le_of_suc-le-suc h))
 
--- ---- writing a number at a place
-
--- a number of k bytes that do not fit is not written
-pub write_at_bytes_of_short : (k x : ℕ) (out : List ℕ) (at : ℕ) → length out < at + k → write_at out at (bytes_of k x)
-    ≡ out
-write_at_bytes_of_short k x out at h = write_at_short out at (bytes_of k x) (rw bytes_of_length h)
-
 -- no bytes change nothing
 pub write_at_nothing : (out : List ℕ) (at : ℕ) → write_at out at [] ≡ out
 unfolding write_at
@@ -205,6 +176,31 @@ write_at_nothing out at = go (leb (at + 0) (length out))
     go : (t : Bool) → cond t (take at out ++ [] ++ drop (at + 0) out) out ≡ out
     go true = rw (append-nil, add-zero, take-append-drop)
     go false = refl
+
+-- ---- by halves, and reading after a write. No proof cites these: they show that reading and writing, as they are
+-- defined, go together
+
+-- the bytes of a number are those of its low part, and then those of what is over it
+pub bytes_of_add : (j k x : ℕ) → bytes_of (j + k) x ≡ bytes_of j x ++ bytes_of k (x / 256 ^ j)
+unfolding bytes_of
+bytes_of_add zero k x = rw (zero-add, div-one)
+bytes_of_add (suc j) k x = rw (suc-add, bytes_of_add j k, div-div-eq-div-mul, ← pow-succ')
+
+-- 256 ^ k, by which the laws divide, is not 0
+positive : (k : ℕ) → 0 < 256 ^ k
+positive zero = omega arith
+positive (suc k) = let h : 0 < 256 ^ k = positive k in rw pow-succ' (omega arith)
+
+-- the lowest j bytes are those of the remainder by 256 ^ j
+pub bytes_of_low : (j x : ℕ) → bytes_of j (x % 256 ^ j) ≡ bytes_of j x
+unfolding bytes_of
+bytes_of_low zero x = refl
+bytes_of_low (suc j) x = rw (pow-succ', mod-mod_of_dvd 256 x (dvd-mul_right 256 (256 ^ j)), upper, bytes_of_low j)
+  where
+    upper : x % (256 * 256 ^ j) / 256 ≡ x / 256 % 256 ^ j
+    upper =
+        let byte : x % 256 < 256 = omega arith in
+        rw (mul_comm 256 (256 ^ j), mod-mul x (positive j) (positive 1), digits_div (x / 256 % 256 ^ j) byte)
 
 -- a number of j + k bytes that fit is written by its low j bytes and then the k bytes over them
 pub write_at_bytes_of_add : (j k x : ℕ) (out : List ℕ) (at : ℕ) → at + (j + k) ≤ length out
@@ -217,9 +213,6 @@ write_at_bytes_of_add j k x out at h =
     let room : at + length low + length high ≤ length out = rw (e, bytes_of_length, add_assoc) h in
     rw (bytes_of_low, bytes_of_add)
     (ap (λ (n : ℕ). write_at (write_at out at low) (at + n) high) (sym e) ∙ write_at_append out at low high room)
-
--- ---- reading after a write. No proof cites these: they show that reading and writing, as they are defined, go
--- together
 
 -- a number that was written where it fits is read back
 pub read_at_written : (k : ℕ) {x : ℕ} (out : List ℕ) (at : ℕ) → x < 256 ^ k → at + k ≤ length out

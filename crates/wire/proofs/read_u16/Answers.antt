@@ -1,10 +1,11 @@
--- `wire::read_u16` meets its contract: two bytes are read as one byte and the one after it. Assumes nothing.
-use mathlib.Core.Path.{sym}
-use Rattle.wire.proofs.LittleEndian.{read_at_add, read_at_past}
+-- `wire::read_u16` meets its contract: the library puts the two bytes together. Assumes nothing.
+use mathlib.Core.Path.{◌∙◌}
+use native.Mathlib.Omega.{arith}
+use Rattle.std.proofs.Common.{w16}
+use Rattle.wire.proofs.Library.{from_le_bytes_at}
 use Rattle.wire.proofs.read_u16.Goals as goal
 
-pub returns-then-s-at : goal.returns-then-s-at
-returns-then-s-at c = sym (read_at_past 2 _ _ c.if-s-at.true)
-
 pub returns : goal.returns
-returns c = rw (c.byte.ensures, c.byte-2.ensures) (sym (read_at_add 1 1 _ _))
+returns c =
+    c.from_le_bytes.ensures
+    ∙ from_le_bytes_at w16 c.bytes.result c.args.s.now c.args.at (omega arith) (omega arith) c.bytes.ensures

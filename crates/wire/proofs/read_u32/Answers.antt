@@ -1,10 +1,11 @@
--- `wire::read_u32` meets its contract: four bytes are read as two bytes and the two after them. Assumes nothing.
-use mathlib.Core.Path.{sym}
-use Rattle.wire.proofs.LittleEndian.{read_at_add, read_at_past}
+-- `wire::read_u32` meets its contract: the library puts the four bytes together. Assumes nothing.
+use mathlib.Core.Path.{◌∙◌}
+use native.Mathlib.Omega.{arith}
+use Rattle.std.proofs.Common.{w32}
+use Rattle.wire.proofs.Library.{from_le_bytes_at}
 use Rattle.wire.proofs.read_u32.Goals as goal
 
-pub returns-then-s-at : goal.returns-then-s-at
-returns-then-s-at c = sym (read_at_past 4 _ _ c.if-s-at.true)
-
 pub returns : goal.returns
-returns c = rw (c.read_u16.ensures, c.read_u16-2.ensures) (sym (read_at_add 2 2 _ _))
+returns c =
+    c.from_le_bytes.ensures
+    ∙ from_le_bytes_at w32 c.bytes.result c.args.s.now c.args.at (omega arith) (omega arith) c.bytes.ensures
