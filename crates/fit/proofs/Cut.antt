@@ -1,40 +1,34 @@
--- Where no motor's limit is under 1, the fit scale is 1; and the search for such a motor, from a place on. Assumes
--- nothing.
+-- Where no motor's limit is under 1, the fit scale is 1; and the search for such a motor, step by step. Assumes nothing.
 use mathlib.Core.Path.{◌≡◌, refl, sym, ap, ◌∙◌}
 use mathlib.Core.Bool.{Bool, true, false, ◌||◌, cond}
 use mathlib.Core.List.{List, [], ◌∷◌}
-use Prim.Native.Nat.{ℕ, ◌+◌, ◌≤◌, ◌<◌, min}
-use native.Mathlib.Numerals.{add-one}
-use lib.ListN.{length, get_or, drop}
-use lib.Seq.{drop-cons}
-use lib.Ieee.{Float, nan, lt}
+use mathlib.Core.Logic.{◌⊎◌}
+use lib.Ieee.{Float, lt}
 use Rattle.general.proofs.Neither.{neither}
 use Rattle.binary32.specs.Arithmetic.{1f}
 use Rattle.fit.specs.Cut.{limit_of, is_cut}
 use Rattle.fit.specs.Fit.{tightened, walk, settled, fit_scale}
 use Rattle.fit.proofs.Step.{limited_step}
-use Rattle.fit.proofs.Walk.{past_shorter}
+use Rattle.fit.proofs.Walk.{none_left}
 use Rattle.fit.proofs.Bounded.{one_held, not_above}
 use Rattle.fit.proofs.Fitting.{one_settles}
 
--- ---- from a place on
+-- ---- step by step
 
 pub or_none : (p : Bool) {q : Bool} → q ≡ false → p || q ≡ p
 or_none true e = refl
 or_none false e = e
 
--- the motor at the place, put to what was found before it
-pub cut_next : (found : Bool) (floor : Float) (bs ds : List Float) (i : ℕ) → i < length bs → i < length ds
-    → (found || lt (limit_of floor (get_or bs i nan) (get_or ds i nan)) 1f)
-    || is_cut floor (drop (i + 1) bs) (drop (i + 1) ds) ≡ found || is_cut floor (drop i bs) (drop i ds)
+-- the first motor of those left, put to what was found before it
+pub cut_next : (found : Bool) (floor : Float) {bs ds cs es : List Float} {b d : Float} → bs ≡ b ∷ cs → ds ≡ d ∷ es
+    → (found || lt (limit_of floor b d) 1f) || is_cut floor cs es ≡ found || is_cut floor bs ds
 unfolding is_cut
-cut_next true floor bs ds i p q = refl
-cut_next false floor bs ds i p q = rw (add-one, drop-cons bs i nan p, drop-cons ds i nan q)
+cut_next true floor p q = refl
+cut_next false floor p q = rw (p, q)
 
-pub cut_over : (floor : Float) (bs ds : List Float) (i : ℕ) → min (length bs) (length ds) ≤ i
-    → is_cut floor (drop i bs) (drop i ds) ≡ false
+pub cut_over : (floor : Float) {bs ds : List Float} → (bs ≡ []) ⊎ (ds ≡ []) → is_cut floor bs ds ≡ false
 unfolding is_cut
-cut_over floor = past_shorter (λ bs ds. is_cut floor bs ds ≡ false) (λ ds. refl) (λ b bs. refl)
+cut_over floor = none_left (λ bs ds. is_cut floor bs ds ≡ false) (λ ds. refl) (λ b bs. refl)
 
 -- ---- no motor
 

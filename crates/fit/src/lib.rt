@@ -4,7 +4,7 @@
 
 #![tactic(auto)]
 
-ghost use Rattle.std.specs.Prelude.{◌≡◌, false, ◌||◌, min};
+ghost use Rattle.std.specs.Prelude.{◌≡◌, false};
 ghost use Rattle.std.specs.Float.Ieee.{lt};
 ghost use Rattle.binary32.specs.Arithmetic.{1f};
 ghost use Rattle.fit.specs.Cut.{limit_of, is_cut};
@@ -33,29 +33,14 @@ fn tighten(s: f32, b: f32, d: f32, floor: f32) -> f32
     pick(limit < s, limit, s)
 }
 
-fn shorter(a: usize, b: usize) -> usize
-    ensures { result ≡ min a b }
-{
-    if a < b { a } else { b }
-}
-
-fn either(a: bool, b: bool) -> bool
-    ensures { result ≡ a || b }
-{
-    a || b
-}
-
 // Whether some motor's limit is under 1. No step waits for the one before it, so that the compiler takes four motors at
 // once.
 fn is_cut(base: &[f32], delta: &[f32], floor: f32) -> bool
     ensures { result ≡ is_cut floor base.now delta.now }
 {
-    let n = shorter(base.len(), delta.len());
     let mut cut = false;
-    let mut i = 0;
-    while i < n {
-        cut = either(cut, limit_of(base[i], delta[i], floor) < 1.0);
-        i += 1;
+    for (b, d) in base.iter().zip(delta) {
+        cut |= limit_of(*b, *d, floor) < 1.0;
     }
     cut
 }
@@ -65,12 +50,9 @@ fn is_cut(base: &[f32], delta: &[f32], floor: f32) -> bool
 fn smallest(base: &[f32], delta: &[f32], floor: f32) -> f32
     ensures { result ≡ fit_scale floor base.now delta.now }
 {
-    let n = shorter(base.len(), delta.len());
-    let mut s: f32 = 1.0;
-    let mut i = 0;
-    while i < n {
-        s = tighten(s, base[i], delta[i], floor);
-        i += 1;
+    let mut s = 1.0;
+    for (b, d) in base.iter().zip(delta) {
+        s = tighten(s, *b, *d, floor);
     }
     pick(s < 0.0, 0.0, s)
 }

@@ -1,40 +1,16 @@
 -- `fit::is_cut` meets its contract. The loop's invariant: what was found, or else what is left to search, is the
 -- answer. Assumes nothing.
 use mathlib.Core.Path.{refl, sym, ◌∙◌}
-use native.Mathlib.Omega.{arith}
-use lib.ListN.{length}
-use borrow.Author.Rules.{scaled_Fits}
+use Rattle.std.proofs.lemmas.Slice.Zip.{Zip-more, either_empty_from_Zip}
 use Rattle.fit.proofs.Cut.{or_none, cut_next, cut_over}
 use Rattle.fit.proofs.is_cut.Goals as goal
 
-pub loop-i-init : goal.loop-i-init
-loop-i-init c = (c.shorter-n.ensures, omega arith, refl)
-
-pub offset_bounds-base-i : goal.offset_bounds-base-i
-offset_bounds-base-i c =
-    scaled_Fits c.loop-i.i (length c.args.base.now) 4
-    (omega arith) c.well_formed.0.1
-
-pub offset_bounds-delta-i : goal.offset_bounds-delta-i
-offset_bounds-delta-i c =
-    scaled_Fits c.loop-i.i
-    (length c.args.delta.now) 4 (omega arith)
-    c.well_formed.1.0.1
-
-pub loop-i-preserved : goal.loop-i-preserved
-loop-i-preserved c =
-    let args = c.args in
-    let inv = c.loop-i.invariant in
-    let next =
-    cut_next c.loop-i.cut args.floor args.base.now args.delta.now c.loop-i.i
-    (omega arith) (omega arith) in (
-      inv.0,
-      omega arith,
-      rw (c.either-cut.ensures, c.limit_of.ensures) next ∙ inv.2,
-    )
+pub loop-b-preserved : goal.loop-b-preserved
+loop-b-preserved c =
+    let left = Zip-more c.loop-b.b-iterator c.next.new.self _ (c.in-Some.b, c.in-Some.d) refl c.in-Some.ensures.steps in
+    rw c.limit_of.ensures (cut_next c.loop-b.cut c.args.floor left.0 left.1) ∙ c.loop-b.invariant
 
 pub returns : goal.returns
 returns c =
-    let inv = c.loop-i.invariant in
-    sym (or_none c.loop-i.cut (cut_over c.args.floor c.args.base.now
-    c.args.delta.now c.loop-i.i (omega arith))) ∙ inv.2
+    let none = either_empty_from_Zip c.loop-b.b-iterator c.next.new.self _ refl c.in-None.ensures.steps in
+    sym (or_none c.loop-b.cut (cut_over c.args.floor none)) ∙ c.loop-b.invariant

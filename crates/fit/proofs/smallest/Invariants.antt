@@ -1,18 +1,15 @@
 -- `fit::smallest` meets its contract. The loop's invariant: what is left to walk, from the scale held, gives the whole
--- walk, and that scale is a number of at most 1. An element's offset, 4 bytes each, fits a `usize` since a slice's
--- bytes do. Assumes nothing.
+-- walk, and that scale is a number of at most 1. Assumes nothing.
 use mathlib.Core.Path.{◌≡◌}
-use Prim.Native.Nat.{◌-◌, ◌≤◌, min}
-use lib.ListN.{length, drop}
+use Rattle.std.specs.Iterator.Adapters.{zip_first, zip_second}
+use Rattle.std.specs.Slice.Iter.{iter_rest}
 use Rattle.binary32.specs.Arithmetic.{1f}
 use Rattle.fit.specs.Fit.{walk}
 use Rattle.fit.proofs.Bounded.{Held}
 use Rattle.fit.proofs.smallest.Given as goal
 
-abbrev pub invariant-loop-i : goal.invariant-loop-i
-invariant-loop-i l =
-    (l.n ≡ min (length l.base) (length l.delta)) × (l.i ≤ l.n)
-    × (walk l.floor l.s (drop l.i l.base) (drop l.i l.delta) ≡ walk l.floor 1f l.base l.delta) × Held l.s
-
-abbrev pub decreases-loop-i : goal.decreases-loop-i
-decreases-loop-i l = l.n - l.i
+abbrev pub invariant-loop-b : goal.invariant-loop-b
+invariant-loop-b l =
+    (walk l.floor l.s (iter_rest (zip_first l.b-iterator)) (iter_rest (zip_second l.b-iterator))
+    ≡ walk l.floor 1f l.fn.base l.fn.delta)
+    × Held l.s
