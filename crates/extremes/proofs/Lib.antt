@@ -1,2 +1,2 @@
--- The walk over numbers from a place on, which the loop of `best` is.
+-- The walk that `reduce` makes over the numbers.
 pub mod Walk

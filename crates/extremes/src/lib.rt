@@ -3,8 +3,8 @@
 
 #![tactic(auto)]
 
-ghost use Rattle.std.specs.Prelude.{◌≡◌, cond};
-ghost use Rattle.rules.specs.Extremes.{larger, smaller, best, largest, least};
+ghost use Rattle.std.specs.Prelude.{◌≡◌};
+ghost use Rattle.rules.specs.Extremes.{larger, smaller, largest, least};
 
 use number::pick;
 
@@ -22,37 +22,16 @@ fn smaller(held: f32, x: f32) -> f32
     pick(x < held, x, held)
 }
 
-// A step of the walk: up to the largest, or down to the least.
-fn better(up: bool, held: f32, x: f32) -> f32
-    ensures { result ≡ cond up (larger held x) (smaller held x) }
-{
-    pick(up, larger(held, x), smaller(held, x))
-}
-
-// The largest where `up` is true, and else the least. Of equal ones it is the first, and of none +0.
-fn best(up: bool, m: &[f32]) -> f32
-    ensures { result ≡ best (λ held x. cond up (larger held x) (smaller held x)) m.now }
-{
-    if m.len() == 0 {
-        return 0.0;
-    }
-    let mut held = m[0];
-    let mut i = 1;
-    while i < m.len() {
-        held = better(up, held, m[i]);
-        i += 1;
-    }
-    held
-}
-
+// Of equal ones it is the first, and of none +0.
 pub fn largest(m: &[f32]) -> f32
     ensures { result ≡ largest m.now }
 {
-    best(true, m)
+    m.iter().copied().reduce(larger).unwrap_or(0.0)
 }
 
+// Of equal ones it is the first, and of none +0.
 pub fn least(m: &[f32]) -> f32
     ensures { result ≡ least m.now }
 {
-    best(false, m)
+    m.iter().copied().reduce(smaller).unwrap_or(0.0)
 }
