@@ -15,15 +15,17 @@
 
 mod list;
 mod operate;
-mod show;
 
-use list::ROOM;
+use list::Processor;
+use lists::{Tally, compare_list};
+use std::fmt::Write;
+use streams::{Stdout, read};
 
-// The number of standard input.
-const STDIN_FILENO: i32 = 0;
+// How many bytes there is room for: more than the list has.
+const ROOM: usize = 131072;
 
 fn main() {
-    let mut space = [0; ROOM];
-    let n = io::read_full(STDIN_FILENO, &mut space);
-    show::print_tally(list::compare(&space[..n]));
+    let mut room = [0; ROOM];
+    let Tally { compared, differ } = compare_list(read(&mut room), ROOM, Processor);
+    let _ = writeln!(Stdout, "{compared} operations compared, {differ} differ");
 }

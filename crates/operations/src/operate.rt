@@ -1,17 +1,59 @@
 // The operations, on the processor.
-ghost use Rattle.std.specs.Prelude.{◌≡◌, ◌≤◌};
-ghost use Rattle.binary32.specs.Arithmetic.{◌+f◌, ◌-f◌, ◌*f◌, ◌/f◌};
+ghost use Rattle.std.specs.Prelude.{◌≡◌};
+ghost use Rattle.operations.specs.Operated.{operated, Numbered};
 
-// The operation of a number, run on two floats that are read at run time, so that no compiler can run it beforehand.
-// Past 3 and at 0 it is the quotient; of these the list's walk lets 4 through alone.
-pub(crate) fn operate(operation: u32, x: f32, y: f32) -> f32
-    ensures { (operation ≡ 1 → result ≡ x +f y) × (operation ≡ 2 → result ≡ x -f y) × (operation ≡ 3 → result ≡ x *f y)
-        × (((1 ≤ operation) × (operation ≤ 3) → ⊥) → result ≡ x /f y) }
-{
-    match operation {
-        1 => x + y,
-        2 => x - y,
-        3 => x * y,
-        _ => x / y,
+use std::fmt;
+
+// An operation of the list.
+#[derive(Clone, Copy)]
+pub(crate) enum Operation {
+    Sum,
+    Difference,
+    Product,
+    Quotient,
+}
+
+// A number that is no operation's.
+#[derive(Clone, Copy)]
+pub(crate) struct NoOperation(pub(crate) u32);
+
+impl TryFrom<u32> for Operation {
+    type Error = NoOperation;
+
+    ghost try_from_gives = { Numbered };
+
+    fn try_from(number: u32) -> Result<Self, NoOperation> {
+        match number {
+            1 => Ok(Operation::Sum),
+            2 => Ok(Operation::Difference),
+            3 => Ok(Operation::Product),
+            4 => Ok(Operation::Quotient),
+            _ => Err(NoOperation(number)),
+        }
+    }
+}
+
+impl fmt::Display for Operation {
+    fn fmt<W: fmt::Write>(&self, f: &mut fmt::Formatter<W>) -> fmt::Result {
+        f.write_str(match self {
+            Operation::Sum => "+",
+            Operation::Difference => "-",
+            Operation::Product => "*",
+            Operation::Quotient => "/",
+        })
+    }
+}
+
+impl Operation {
+    // Its result. The two floats are read at run time, so that no compiler can run it beforehand.
+    pub(crate) fn of(self, x: f32, y: f32) -> f32
+        ensures { result ≡ operated self x y }
+    {
+        match self {
+            Operation::Sum => x + y,
+            Operation::Difference => x - y,
+            Operation::Product => x * y,
+            Operation::Quotient => x / y,
+        }
     }
 }

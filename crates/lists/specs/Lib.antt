@@ -1,0 +1,2 @@
+-- What the contracts of `lists` cite.
+pub mod Counted

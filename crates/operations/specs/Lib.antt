@@ -1,0 +1,2 @@
+-- What the contracts of `operations` cite.
+pub mod Operated
