@@ -29,6 +29,7 @@ const ALL_ONES: u32 = 255;
 // Whether x is neither a NaN nor an infinity, by the exponent's field of its bits. The language has no bits of a NaN,
 // so that one is told first, by a comparison that a compiler could leave out again, since the field tells it too, and
 // that today's keeps (decisions 130 and 148). This is the one test for it; nothing that calls it looks into it.
+// (The library's `is_finite` subtracts x from itself, which an infinity signals at: decision 130.)
 pub fn is_finite(x: f32) -> bool
     ensures { result ≡ finite x }
 {
@@ -52,11 +53,11 @@ pub fn is_moderate(x: f32) -> bool
     false
 }
 
-// Whether x is a NaN: only a NaN differs from itself.
+// Whether x is a NaN, by the library's test: only a NaN differs from itself.
 pub fn is_nan(x: f32) -> bool
     ensures { result ≡ is_nan x }
 {
-    x != x
+    x.is_nan()
 }
 
 // a where t holds, else b. Code that is made of choices is straight-line, and so is its proof.
@@ -67,14 +68,16 @@ pub fn pick(t: bool, a: f32, b: f32) -> f32
 }
 
 // A torque or a thrust as the mixes take it: a NaN or an infinity counts as +0.
+#[tactic(auto, unfolding(crate::specs::Treat::treated))]
 pub fn sanitise(x: f32) -> f32
     ensures { result ≡ treated x }
 {
     pick(is_finite(x), x, 0.0)
 }
 
-// x held to lo..hi, as Rust's `f32::clamp` does it, but for every lo and hi: a NaN stays a NaN, and a -0 at a lo of +0
-// stays -0.
+// x held to lo..hi, as Rust's `f32::clamp` does it, but for every lo and hi, where the library's asks that lo is not
+// over hi: a NaN stays a NaN, and a -0 at a lo of +0 stays -0.
+#[tactic(auto, unfolding(crate::specs::Treat::clamped))]
 pub fn clamp(x: f32, lo: f32, hi: f32) -> f32
     ensures { result ≡ clamped x lo hi }
 {
@@ -84,6 +87,7 @@ pub fn clamp(x: f32, lo: f32, hi: f32) -> f32
 // x held to lo..hi, its ends looked at in turn, the lower one in what the upper left: an instruction for each, where
 // `clamp`'s choices take three. It is `clamp` of a number where the ends are in order; where lo is over hi the two
 // differ.
+#[tactic(auto, unfolding(crate::specs::InTurn::in_turn))]
 pub fn clamp_in_turn(x: f32, lo: f32, hi: f32) -> f32
     ensures { result ≡ in_turn x lo hi }
 {
@@ -93,6 +97,7 @@ pub fn clamp_in_turn(x: f32, lo: f32, hi: f32) -> f32
 
 // A thrust or a floor as the mixes take it: treated, then held to 0..1. relay-mix-quad writes it
 // `clamp01(sanitise(x))`.
+#[tactic(auto, unfolding(crate::specs::Treat::limited))]
 pub fn limit(x: f32) -> f32
     ensures { result ≡ limited x }
 {
@@ -101,6 +106,7 @@ pub fn limit(x: f32) -> f32
 
 // A motor's command held to lo..1. What is not finite gives lo: +infinity too, so that an overflow never commands full
 // thrust.
+#[tactic(auto, unfolding(crate::specs::Treat::floor_clamp))]
 pub fn clamp_floor(x: f32, lo: f32) -> f32
     ensures { result ≡ floor_clamp x lo }
 {
@@ -109,6 +115,7 @@ pub fn clamp_floor(x: f32, lo: f32) -> f32
 
 // relay-mix-multi's clamp to 0..1: a NaN gives +0, +infinity gives 1. (relay-mix-quad has a private function of the
 // same name that passes a NaN on: `clamp(x, 0.0, 1.0)`.)
+#[tactic(auto, unfolding(crate::specs::Treat::unit_clamp))]
 pub fn clamp01(x: f32) -> f32
     ensures { result ≡ unit_clamp x }
 {
