@@ -3,6 +3,7 @@
 use Rattle.std.specs.Prelude.{◌≡◌, List, [], ◌∷◌, ◌++◌, ℕ, zero, suc, ◌+◌, ◌*◌, ◌≤◌, length}
 use Rattle.wire.specs.Bytes.{read_at, write_at}
 use Rattle.entries.specs.Layout.{count_of, kind_of, answer_size}
+use Rattle.lines.specs.declared.Page.{Page}
 use Rattle.text.specs.Digits.{hex_of, decimal_of}
 
 -- ---- the lines of an accepted sheet
@@ -58,10 +59,11 @@ pub record Written (line before after : List ℕ) (r : ℕ) : Type 0 where
   pub room : r ≤ text_size
   pub within : r ≤ length after
 
--- A part of what is printed, of at most `most` bytes, at a place of the text where it fits; the answer is the place
--- after it.
-pub record Put (most : ℕ) (part before : List ℕ) (at : ℕ) (after : List ℕ) (next : ℕ) : Type 0 where
-  pub text : after ≡ write_at before at part
-  pub place : next ≡ at + length part
+-- A part of what is printed, of at most `most` bytes, at the place of the page where it fits; the page goes on at the
+-- place after it, and lends the same text.
+pub record Put (most : ℕ) (part : List ℕ) (before after : Page) : Type 0 where
+  pub text : after.text.now ≡ write_at before.text.now before.at part
+  pub place : after.at ≡ before.at + length part
   pub few : length part ≤ most
-  pub inside : next ≤ length before
+  pub inside : after.at ≤ length before.text.now
+  pub same : after.text.ghost_name ≡ before.text.ghost_name

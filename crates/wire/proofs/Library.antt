@@ -6,7 +6,8 @@ use native.Mathlib.Nat.{zero-add, div-one, div-div-eq-div-mul, mul_comm, pow-suc
 use native.Mathlib.Numerals.{add-one}
 use native.Mathlib.Omega.{arith}
 use lib.ListN.{length, get_or}
-use Rattle.std.specs.Int.{Width, byte_len, byte_at, byte_worth, bytes_low_first, sum_through, to_le_bytes, from_le_bytes}
+use Rattle.std.specs.Int.{Width, byte_len, byte_at, byte_worth, bytes_low_first, sum_through}
+use Rattle.std.specs.Int.{to_le_bytes, from_le_bytes}
 use Rattle.wire.specs.Bytes.{little_endian, bytes_of, read_at}
 use Rattle.wire.proofs.LittleEndian.{read_at_add, read_at_one}
 
@@ -21,7 +22,8 @@ byte_left (suc i) n = refl
 bytes_from : (i k n : ℕ) → bytes_low_first i k n ≡ bytes_of k (n / 256 ^ i)
 unfolding bytes_of
 bytes_from i zero n = refl
-bytes_from i (suc k) n = rw (byte_left i n, bytes_from (suc i) k n, div-div-eq-div-mul, pow-succ', mul_comm 256 (256 ^ i))
+bytes_from i (suc k) n =
+    rw (byte_left i n, bytes_from (suc i) k n, div-div-eq-div-mul, pow-succ', mul_comm 256 (256 ^ i))
 
 -- all of them
 pub to_le_bytes_is : (w : Width) (n : ℕ) → to_le_bytes w n ≡ bytes_of (byte_len w) n

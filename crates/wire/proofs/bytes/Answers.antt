@@ -1,5 +1,5 @@
--- `wire::bytes` meets its contract: each call of the closure leaves it as it is, and gives the byte at its index of what
--- is left of s from the place on. Assumes nothing.
+-- `wire::bytes` meets its contract: each call of the closure leaves it as it is, and gives the byte at its index of
+-- what is left of s from the place on. Assumes nothing.
 use mathlib.Core.Path.{◌≡◌, refl, sym, subst, ◌∙◌}
 use mathlib.Core.List.{List, []}
 use mathlib.Core.Logic.{inl, inr}
