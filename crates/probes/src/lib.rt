@@ -4,14 +4,14 @@
 
 #![tactic(auto)]
 
-ghost use Rattle.std.specs.Prelude.{◌≡◌};
+ghost use Rattle.std.specs.Prelude.{◌≡◌, is_some};
 ghost use Rattle.std.specs.Float.{binary32};
 ghost use Rattle.std.specs.Float.Ieee.{is_nan, of_bits, to_bits};
 ghost use Rattle.std.specs.Float.Ieee.Scale.{finite};
 ghost use Rattle.number.specs.Treat.{treated, clamped, limited, floor_clamp};
 ghost use Rattle.wire.specs.Bytes.{bytes_of, read_at, write_at};
 ghost use Rattle.fit.specs.Fit.{fit_scale};
-ghost use Rattle.solve.specs.Solve.{element, determinant, solution};
+ghost use Rattle.solve.specs.Solve.{element, determinant, solution, or_zeros};
 ghost use Rattle.lines.specs.Lines.{Written};
 ghost use Rattle.report.specs.Report.{printed};
 ghost use Rattle.probes.specs.Matrix.{rows};
@@ -125,14 +125,12 @@ pub extern "C" fn probe_det3(a: &[f32; 9]) -> f32
 
 #[unsafe(no_mangle)]
 pub extern "C" fn probe_solve3(a: &[f32; 9], rhs: &[f32; 3], x: &mut [f32; 3]) -> bool
-    ensures { (result ≡ (solution (rows a.now) rhs.now).solved)
-        × (x.new ≡ (solution (rows a.now) rhs.now).x) }
+    ensures { (result ≡ is_some (solution (rows a.now) rhs.now))
+        × (x.new ≡ or_zeros (solution (rows a.now) rhs.now)) }
 {
-    let v = *rhs;
-    let s = solve::solve3(matrix(a), v);
-    let found = s.x;
-    *x = found;
-    s.solved
+    let found = solve::solve3(matrix(a), *rhs);
+    *x = found.unwrap_or([0.0; 3]);
+    found.is_some()
 }
 
 // What `mixrun` prints for a sheet.

@@ -1,7 +1,7 @@
 // The mix for a lost rotor. Follows relay-mix-quad's `mix_rotor_out` (Apache-2.0, see NOTICE); changed: written in
-// Rattle with contracts, with choices in the place of branches, the loops over four motors written out, the lost
-// rotor's number written out where its equations are solved, a table of what the floor counts in the place of a choice
-// by that number, and the ends of the tilt's clamp taken in turn.
+// Rattle with contracts, with choices in the place of branches, the equations of each lost rotor solved by a function of
+// its own, a table of what the floor counts in the place of a choice by that number, and the ends of the tilt's clamp
+// taken in turn.
 
 #![tactic(auto)]
 
@@ -15,8 +15,9 @@ ghost use Rattle.rules.specs.RotorOut.{tilt, tilt_motor, equations, placed, base
 ghost use Rattle.rules.specs.RotorOut.{motors_without, rotor_out_motors};
 
 use number::{clamp_floor, clamp_in_turn, limit, sanitise};
-use rotors::rows::{M1, M2, M3, M4, MIXER_X};
-use solve::{Solution, solve3};
+use rotors::rows::MIXER_X;
+use solve::solve3;
+use std::array;
 
 // A torque this large is far outside flight; held to it, the three equations never overflow.
 const TAU_BOUND: f32 = 8.0;
@@ -38,12 +39,7 @@ fn tilt_motor(floor: f32, t: f32, r: f32, p: f32, row: [f32; 4]) -> f32
 fn none_lost(floor: f32, t: f32, r: f32, p: f32) -> [f32; 4]
     ensures { result ≡ map (tilt_motor floor t r p) quad_rows }
 {
-    [
-        tilt_motor(floor, t, r, p, M1),
-        tilt_motor(floor, t, r, p, M2),
-        tilt_motor(floor, t, r, p, M3),
-        tilt_motor(floor, t, r, p, M4),
-    ]
+    array::from_fn(|i| tilt_motor(floor, t, r, p, MIXER_X[i]))
 }
 
 // What the three healthy rotors have to give together: their sum, their roll, their pitch.
@@ -78,43 +74,30 @@ struct Split {
     delta: [f32; 4],
 }
 
-fn both(failed: usize, base: Solution, delta: Solution) -> Split
-    requires { failed < 4 }
-    ensures { result ≡ record { base = placed failed base.x; delta = placed failed delta.x } }
+// Each lost rotor has a copy of its own, so that the compiler solves beforehand as much of the equations as no command
+// changes. Where they are not solved, the three numbers are +0.
+fn split_of<const FAILED: usize>(t: f32, r: f32, p: f32) -> Split
+    requires { FAILED < 4 }
+    ensures { result ≡ record { base = base_without FAILED t; delta = delta_without FAILED r p } }
 {
-    let b = base.x;
-    let d = delta.x;
+    let a = equations(FAILED);
+    let base = solve3(a, [3.0 * t, 0.0, 0.0]).unwrap_or([0.0; 3]);
+    let delta = solve3(a, [0.0, r, p]).unwrap_or([0.0; 3]);
     Split {
-        base: placed(failed, b),
-        delta: placed(failed, d),
+        base: placed(FAILED, base),
+        delta: placed(FAILED, delta),
     }
 }
 
-// Each lost rotor has its own line, so that the compiler solves beforehand as much of the equations as no command
-// changes.
 fn split_without(failed: usize, t: f32, r: f32, p: f32) -> Split
     requires { failed < 4 }
     ensures { result ≡ record { base = base_without failed t; delta = delta_without failed r p } }
 {
-    let thrust = [3.0 * t, 0.0, 0.0];
-    let tilt = [0.0, r, p];
     match failed {
-        0 => {
-            let a = equations(0);
-            both(0, solve3(a, thrust), solve3(a, tilt))
-        }
-        1 => {
-            let a = equations(1);
-            both(1, solve3(a, thrust), solve3(a, tilt))
-        }
-        2 => {
-            let a = equations(2);
-            both(2, solve3(a, thrust), solve3(a, tilt))
-        }
-        _ => {
-            let a = equations(3);
-            both(3, solve3(a, thrust), solve3(a, tilt))
-        }
+        0 => split_of::<0>(t, r, p),
+        1 => split_of::<1>(t, r, p),
+        2 => split_of::<2>(t, r, p),
+        _ => split_of::<3>(t, r, p),
     }
 }
 
@@ -139,14 +122,8 @@ fn motors_without(failed: usize, floor: f32, b: [f32; 4], d: [f32; 4]) -> [f32; 
     ensures { result ≡ motors_without failed floor b d }
 {
     let s = fit::scale(&b, &d, floor);
-    let table = COUNTS;
-    let counts = table[failed];
-    [
-        motor_without(counts[0], floor, s, b[0], d[0]),
-        motor_without(counts[1], floor, s, b[1], d[1]),
-        motor_without(counts[2], floor, s, b[2], d[2]),
-        motor_without(counts[3], floor, s, b[3], d[3]),
-    ]
+    let counts = COUNTS[failed];
+    array::from_fn(|i| motor_without(counts[i], floor, s, b[i], d[i]))
 }
 
 fn allotted(failed: usize, floor: f32, t: f32, r: f32, p: f32) -> [f32; 4]
@@ -158,9 +135,7 @@ fn allotted(failed: usize, floor: f32, t: f32, r: f32, p: f32) -> [f32; 4]
     if failed >= 4 {
         return none_lost(floor, t, r, p);
     }
-    let x = split_without(failed, t, r, p);
-    let base = x.base;
-    let delta = x.delta;
+    let Split { base, delta } = split_without(failed, t, r, p);
     motors_without(failed, floor, base, delta)
 }
 

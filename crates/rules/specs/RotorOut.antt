@@ -6,7 +6,7 @@ use Rattle.std.specs.Float.Ieee.{neg, of_bits}
 use Rattle.binary32.specs.Arithmetic.{◌+f◌, ◌*f◌, 0f, 1f}
 use Rattle.number.specs.Treat.{treated, clamped, limited, floor_clamp}
 use Rattle.fit.specs.Fit.{fit_scale}
-use Rattle.solve.specs.Solve.{solution}
+use Rattle.solve.specs.Solve.{solution, or_zeros}
 use Rattle.rules.specs.Rows.{Row, roll_of, pitch_of, quad_rows}
 
 -- 3 and 8
@@ -49,10 +49,10 @@ placed f x =
 
 -- "Cramer's rule [...] for (3t,0,0) as base and (0,roll,pitch) as delta"
 unfoldable pub base_without : ℕ → Float → List Float
-base_without f t = placed f (solution (equations f) (3f *f t ∷ 0f ∷ 0f ∷ [])).x
+base_without f t = placed f (or_zeros (solution (equations f) (3f *f t ∷ 0f ∷ 0f ∷ [])))
 
 unfoldable pub delta_without : ℕ → Float → Float → List Float
-delta_without f r p = placed f (solution (equations f) (0f ∷ r ∷ p ∷ [])).x
+delta_without f r p = placed f (or_zeros (solution (equations f) (0f ∷ r ∷ p ∷ [])))
 
 -- "healthy motors get the floor clamp of treated base + s*delta, the lost one +0"
 unfoldable pub motor_without : ℕ → Float → Float → List Float → List Float → ℕ → Float

@@ -1,6 +1,6 @@
 -- The Rust's `mix_rotor_out` is document 01's rotor-out, for every rotor number: both calls of `solve3` have one
 -- matrix, so that either both are solved or none is; and where none is, the zeros that the Rust keeps are those that
--- ours answers. Assumes nothing.
+-- ours puts there. Assumes nothing.
 use mathlib.Core.Path.{◌≡◌, refl, ap, ◌∙◌}
 use mathlib.Core.Bool.{Bool, true, false, not, cond}
 use mathlib.Core.List.{List, [], ◌∷◌, map}
@@ -9,15 +9,15 @@ use borrow.Author.Tests.{ltb-true, ltb-false, le-leb, lt-leb}
 use lib.Dec.{eqb, ltb, leb}
 use lib.ListN.{length, get_or, set, replicate, length-set}
 use lib.Ieee.{Float}
+use Rattle.std.specs.Prelude.{Option, Some, None}
 use Rattle.general.proofs.Lists.{map_same}
 use Rattle.binary32.specs.Arithmetic.{◌+f◌, ◌*f◌, 0f, 1f}
 use Rattle.number.specs.Treat.{treated, limited, floor_clamp}
 use Rattle.fit.specs.Fit.{fit_scale}
-use Rattle.solve.specs.declared.Solution.{Solution}
-use Rattle.solve.specs.Solve.{element, determinant, singular, solution}
+use Rattle.solve.specs.Solve.{element, determinant, singular, solution, or_zeros}
 use Rattle.rules.specs.Rows.{roll_of, pitch_of, quad_rows}
-use Rattle.rules.specs.RotorOut.{3f, tilt, tilt_motor, healthy, equations, placed, base_without, delta_without}
-use Rattle.rules.specs.RotorOut.{motor_without, motors_without, rotor_out_motors}
+use Rattle.rules.specs.RotorOut.{3f, tilt, tilt_motor, healthy, equations, placed, base_without}
+use Rattle.rules.specs.RotorOut.{delta_without, motor_without, motors_without, rotor_out_motors}
 use Rattle.rust_text.specs.Forms.{◌!◌}
 use Rattle.rust_text.specs.Numbers.{sanitise, clamp_floor}
 use Rattle.rust_text.specs.State.{Quad, MIXER_X, answered, store_motors, store_scale}
@@ -58,10 +58,9 @@ nothing_placed f =
 
 -- two answers, both solved or neither
 both_placed : (f : ℕ) (singular : Bool) (x y : List Float)
-    → let answer : List Float → Solution =
-    λ z. cond singular (record { solved = false; x = 0f ∷ 0f ∷ 0f ∷ [] }) (record { solved = true; x = z }) in
+    → let answer : List Float → Option (List Float) = λ z. cond singular None (Some z) in
     solved_into (healthy f) (replicate 4 0f) (replicate 4 0f) (optional (answer x)) (optional (answer y))
-    ≡ (placed f (answer x).x, placed f (answer y).x)
+    ≡ (placed f (or_zeros (answer x)), placed f (or_zeros (answer y)))
 unfolding solved_into placed
 both_placed f true x y = rw (nothing_placed f)
 both_placed f false x y = refl
@@ -69,7 +68,7 @@ both_placed f false x y = refl
 solved_placed : (f : ℕ) (v w : List Float)
     → solved_into (healthy f) (replicate 4 0f) (replicate 4 0f) (optional (solution (equations f) v))
     (optional (solution (equations f) w))
-    ≡ (placed f (solution (equations f) v).x, placed f (solution (equations f) w).x)
+    ≡ (placed f (or_zeros (solution (equations f) v)), placed f (or_zeros (solution (equations f) w)))
 unfolding solution
 solved_placed f v w = both_placed f (singular (determinant (element (equations f)))) _ _
 

@@ -1,5 +1,5 @@
 -- The Rust's `det3` and `solve3` are ours, of three rows of three f32s and three numbers on the right: its `Option` is
--- our flag, and the sign bit masked is the absolute value. Assumes nothing.
+-- the language's, and the sign bit masked is the absolute value. Assumes nothing.
 use mathlib.Core.Path.{◌≡◌, refl, ap}
 use mathlib.Core.Bool.{Bool, true, false, not, ◌||◌, cond}
 use mathlib.Core.List.{List, [], ◌∷◌}
@@ -9,11 +9,12 @@ use lib.ListN.{length}
 use lib.Ieee.{Float, nan, binary32, fits, lt}
 use lib.Ieee.Fits.{add-fits}
 use lib.Ieee.Scale.{finite}
+use Rattle.std.specs.Prelude as Ours
+use Rattle.std.specs.Prelude.{Some, None}
 use Rattle.general.proofs.Four.{three}
-use Rattle.binary32.specs.Arithmetic.{0f, small, absolute}
+use Rattle.binary32.specs.Arithmetic.{small, absolute}
 use Rattle.binary32.proofs.Masked.{masked_absolute_binary32}
 use Rattle.solve.specs.Solve.{element, determinant, singular, cramer, solution}
-use Rattle.solve.specs.declared.Solution.{Solution}
 use Rattle.rust_text.specs.Numbers.{libm_fabsf}
 use Rattle.rust_text.specs.Solve.{det3, solve3}
 
@@ -21,9 +22,10 @@ pub det3_is : (a : List (List Float)) → det3 a ≡ determinant (element a)
 unfolding det3
 det3_is a = refl
 
--- our flag as the Rust's `Option`
-abbrev pub optional : Solution → Option (List Float)
-optional s = cond s.solved (some s.x) none
+-- the language's `Option` as that of these definitions
+abbrev pub optional : Ours.Option (List Float) → Option (List Float)
+optional None = none
+optional (Some x) = some x
 
 -- the sign bit masked
 pub libm_fabsf_is : (x : Float) → T (fits binary32 x) → libm_fabsf x ≡ absolute x
@@ -36,8 +38,7 @@ unfolding singular
 singular_is det h = ap (λ (z : Float). not (finite det) || lt z small) (libm_fabsf_is det h)
 
 -- a choice between the two answers
-chosen : (b : Bool) (x : List Float) → cond b none (some x)
-    ≡ optional (cond b (record { solved = false; x = 0f ∷ 0f ∷ 0f ∷ [] }) (record { solved = true; x = x }))
+chosen : (b : Bool) (x : List Float) → cond b none (some x) ≡ optional (cond b None (Some x))
 chosen true x = refl
 chosen false x = refl
 

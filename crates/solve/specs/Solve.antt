@@ -1,12 +1,12 @@
 -- Three equations in three unknowns by Cramer's rule, as document 01 asks for it in "The five quad mixes", 5,
 -- rotor-out: exactly as `det3` and `solve3` of relay-mix-quad write it. Each sign is one rounded operation, in the
 -- order of the Rust's. A matrix is the list of its rows. Definitions only.
-use Rattle.std.specs.Prelude.{Bool, true, false, not, ◌||◌, cond, List, [], ◌∷◌, ℕ, get_or, set, Float}
+use Rattle.std.specs.Prelude.{Bool, not, ◌||◌, cond, List, [], ◌∷◌, ℕ, get_or, set, Float, Option, Some, None}
 use Rattle.std.specs.Float.{nan}
+use Rattle.std.specs.Option.{unwrap_or}
 use Rattle.std.specs.Float.Ieee.{lt}
 use Rattle.std.specs.Float.Ieee.Scale.{finite}
 use Rattle.binary32.specs.Arithmetic.{◌+f◌, ◌-f◌, ◌*f◌, ◌/f◌, 0f, small, absolute}
-use Rattle.solve.specs.declared.Solution.{Solution}
 
 -- ---- a determinant
 
@@ -45,12 +45,15 @@ replaced a k v = put (put (put a 0 k (get_or v 0 nan)) 1 k (get_or v 1 nan)) 2 k
 unfoldable pub cramer : List (List Float) → ℕ → List Float → Float → Float
 cramer a k v det = determinant (element (replaced a k v)) /f det
 
--- The three unknowns, or, where a is singular, three +0 and the mark that nothing was solved (document 01, rotor-out,
--- `solve3`, whose `Option` is "a struct of floats and a flag").
-unfoldable pub solution : List (List Float) → List Float → Solution
+-- The three unknowns, or, where a is singular, none (document 01, rotor-out: `solve3` and its `Option`).
+unfoldable pub solution : List (List Float) → List Float → Option (List Float)
 solution a v =
     let det = determinant (element a) in
     cond
     (singular det)
-    (record { solved = false; x = 0f ∷ 0f ∷ 0f ∷ [] })
-    (record { solved = true; x = cramer a 0 v det ∷ cramer a 1 v det ∷ cramer a 2 v det ∷ [] })
+    None
+    (Some (cramer a 0 v det ∷ cramer a 1 v det ∷ cramer a 2 v det ∷ []))
+
+-- what is taken for the three unknowns: themselves, or three +0 where there are none
+abbrev pub or_zeros : Option (List Float) → List Float
+or_zeros x = unwrap_or x (0f ∷ 0f ∷ 0f ∷ [])

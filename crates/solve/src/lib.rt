@@ -1,6 +1,6 @@
-// Follows relay-mix-quad's det3 and solve3 (Apache-2.0, see NOTICE); changed: written in Rattle, with contracts; the
-// Option is a struct with a flag; the loops over three columns and three rows are written out; the size of the
-// determinant is compared from both sides, with no absolute value made.
+// Follows relay-mix-quad's det3 and solve3 (Apache-2.0, see NOTICE); changed: written in Rattle, with contracts; an
+// unknown is a function of its own, and so is a matrix with a column replaced; the size of the determinant is compared
+// from both sides, with no absolute value made.
 
 #![tactic(auto)]
 
@@ -10,21 +10,13 @@ ghost use Rattle.binary32.specs.Arithmetic.{small, absolute};
 ghost use Rattle.solve.specs.Solve.{element, determinant, singular, replaced, cramer, solution};
 
 use number::{SMALL, is_finite};
-
-// What solve3 finds. Where nothing was solved, x holds three +0.
-#[derive(Clone, Copy)]
-pub struct Solution {
-    pub solved: bool,
-    pub x: [f32; 3],
-}
+use std::array;
 
 // Determinant of a 3x3 matrix given by its rows, each read once.
 pub fn det3(a: [[f32; 3]; 3]) -> f32
     ensures { result ≡ determinant (element a) }
 {
-    let b = a[0];
-    let c = a[1];
-    let d = a[2];
+    let [b, c, d] = a;
     b[0] * (c[1] * d[2] - c[2] * d[1]) - b[1] * (c[0] * d[2] - c[2] * d[0])
         + b[2] * (c[0] * d[1] - c[1] * d[0])
 }
@@ -49,9 +41,9 @@ fn with_column(a: [[f32; 3]; 3], k: usize, rhs: [f32; 3]) -> [[f32; 3]; 3]
     ensures { result ≡ replaced a k rhs }
 {
     let mut ak = a;
-    ak[0][k] = rhs[0];
-    ak[1][k] = rhs[1];
-    ak[2][k] = rhs[2];
+    for (i, v) in rhs.iter().enumerate() {
+        ak[i][k] = *v;
+    }
     ak
 }
 
@@ -63,22 +55,14 @@ fn unknown(a: [[f32; 3]; 3], k: usize, rhs: [f32; 3], det: f32) -> f32
     det3(with_column(a, k, rhs)) / det
 }
 
-// Solves a x = rhs by Cramer's rule. Nothing is solved where the determinant is not finite or smaller than SMALL in
+// Solves a x = rhs by Cramer's rule. There is no solution where the determinant is not finite or smaller than SMALL in
 // size.
-pub fn solve3(a: [[f32; 3]; 3], rhs: [f32; 3]) -> Solution
+pub fn solve3(a: [[f32; 3]; 3], rhs: [f32; 3]) -> Option<[f32; 3]>
     ensures { result ≡ solution a rhs }
 {
     let det = det3(a);
     if is_singular(det) {
-        return Solution {
-            solved: false,
-            x: [0.0; 3],
-        };
+        return None;
     }
-    let x = [
-        unknown(a, 0, rhs, det),
-        unknown(a, 1, rhs, det),
-        unknown(a, 2, rhs, det),
-    ];
-    Solution { solved: true, x }
+    Some(array::from_fn(|k| unknown(a, k, rhs, det)))
 }

@@ -1,0 +1,2 @@
+-- `Column`: a column replaced as far as a loop has come.
+pub mod Column
