@@ -6,7 +6,7 @@
 #![tactic(auto)]
 
 ghost use Rattle.std.specs.Prelude.{◌≡◌};
-ghost use Rattle.binary32.specs.Arithmetic.{0f, 1f};
+ghost use Rattle.binary32.specs.Arithmetic.{◌+f◌, 0f, 1f};
 ghost use Rattle.binary32.specs.Range.{Between};
 ghost use Rattle.number.specs.Treat.{floor_clamp};
 ghost use Rattle.rules.specs.Rows.{quad_rows};
@@ -36,7 +36,7 @@ fn unshifted(idle: f32, t: f32, d: [f32; 4]) -> [f32; 4]
     ensures { result ≡ unshifted idle t d }
 {
     let s = spread_scale(idle, spread(d));
-    [t + d[0] * s, t + d[1] * s, t + d[2] * s, t + d[3] * s]
+    d.map(|d| t + d * s)
 }
 
 // By how much all motors are moved: up to idle, or down to 1, or not at all.
@@ -62,12 +62,12 @@ fn shifted(idle: f32, m: [f32; 4]) -> [f32; 4]
     ensures { result ≡ shifted idle m }
 {
     let by = shift(idle, least(&m), largest(&m));
-    [
-        hold(m[0] + by, idle),
-        hold(m[1] + by, idle),
-        hold(m[2] + by, idle),
-        hold(m[3] + by, idle),
-    ]
+    m.map(|x|
+        requires { Between 0f 1f idle }
+        ensures { result ≡ floor_clamp (x +f by) idle }
+    {
+        hold(x + by, idle)
+    })
 }
 
 // The torque is kept and the collective moved, so that each motor stays in idle..1; only a torque wider than that range

@@ -25,9 +25,7 @@ pub fn lower_and_limit(m: &mut [f32])
     ensures { m.new ≡ lower_limited m.old }
 {
     let over = excess(largest(m));
-    let mut i = 0;
-    while i < m.len() {
-        m[i] = clamp_floor(m[i] - over, 0.0);
-        i += 1;
+    for m in m.iter_mut() {
+        *m = clamp_floor(*m - over, 0.0);
     }
 }

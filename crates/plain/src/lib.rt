@@ -6,12 +6,12 @@
 
 ghost use Rattle.std.specs.Prelude.{◌≡◌};
 ghost use Rattle.rules.specs.Rows.{quad_rows};
-ghost use Rattle.rules.specs.Plain.{raw_sums, plain_motors};
+ghost use Rattle.rules.specs.Plain.{raw_sum, raw_sums, plain_motors};
 
 use lowering::lower_and_limit;
 use number::sanitise;
 use rotors::command::raw_sum;
-use rotors::rows::{M1, M2, M3, M4};
+use rotors::rows::MIXER_X;
 
 fn raw_sums(torque_body: [f32; 3], thrust: f32) -> [f32; 4]
     ensures { result ≡ raw_sums quad_rows torque_body thrust }
@@ -20,12 +20,11 @@ fn raw_sums(torque_body: [f32; 3], thrust: f32) -> [f32; 4]
     let r = sanitise(torque_body[0]);
     let p = sanitise(torque_body[1]);
     let y = sanitise(torque_body[2]);
-    [
-        raw_sum(M1, t, r, p, y),
-        raw_sum(M2, t, r, p, y),
-        raw_sum(M3, t, r, p, y),
-        raw_sum(M4, t, r, p, y),
-    ]
+    MIXER_X.map(|row|
+        ensures { result ≡ raw_sum t r p y row }
+    {
+        raw_sum(row, t, r, p, y)
+    })
 }
 
 // Torque and thrust to motors in 0..1. Where a motor would pass 1, all are lowered; what is then under 0 is cut.

@@ -7,7 +7,7 @@ ghost use Rattle.rules.specs.Rows.{roll_of, pitch_of, yaw_of, quad_rows};
 ghost use Rattle.rules.specs.Command.{lifted, delta, deltas};
 ghost use Rattle.rules.specs.Plain.{raw_sum};
 
-use crate::rows::{M1, M2, M3, M4};
+use crate::rows::MIXER_X;
 use number::{is_moderate, pick, sanitise};
 
 // What thrust and torques ask of the motor of one row. It is not treated: an overflow shows as an infinity.
@@ -43,13 +43,7 @@ pub fn delta(row: [f32; 4], r: f32, p: f32, y: f32) -> f32
 fn all_moderate(r: f32, p: f32, y: f32) -> bool
     ensures { result ≡ moderate r && moderate p && moderate y }
 {
-    if is_moderate(r) {
-        if is_moderate(p) {
-            return is_moderate(y);
-        }
-        return false;
-    }
-    false
+    is_moderate(r) && is_moderate(p) && is_moderate(y)
 }
 
 // What a torque asks of each motor, the thrust left out. That it is moderate is seen first, since it is quick; the
@@ -61,17 +55,15 @@ pub fn deltas(torque_body: [f32; 3]) -> [f32; 4]
     let p = sanitise(torque_body[1]);
     let y = sanitise(torque_body[2]);
     if all_moderate(r, p, y) {
-        return [
-            asked(M1, r, p, y),
-            asked(M2, r, p, y),
-            asked(M3, r, p, y),
-            asked(M4, r, p, y),
-        ];
+        return MIXER_X.map(|row|
+            ensures { result ≡ roll_of row *f r +f pitch_of row *f p +f yaw_of row *f y }
+        {
+            asked(row, r, p, y)
+        });
     }
-    [
-        delta(M1, r, p, y),
-        delta(M2, r, p, y),
-        delta(M3, r, p, y),
-        delta(M4, r, p, y),
-    ]
+    MIXER_X.map(|row|
+        ensures { result ≡ delta r p y row }
+    {
+        delta(row, r, p, y)
+    })
 }

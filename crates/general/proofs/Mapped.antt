@@ -1,0 +1,35 @@
+-- What `map` of an array gives, where each call of the closure gives h of its element and leaves the closure as it was:
+-- the list that h makes of the elements. Assumes nothing.
+use mathlib.Core.Path.{◌≡◌, ap₂, subst}
+use mathlib.Core.List.{List, ◌∷◌, map}
+use Prim.Native.Nat.{ℕ, zero, suc, ◌+◌, ◌≤◌, ◌<◌}
+use native.Mathlib.Numerals.{add-one}
+use native.Mathlib.Omega.{arith}
+use lib.ListN.{length, drop, drop_of_length-le}
+use lib.Seq.{drop-cons}
+use denote.Param.Members.{Mut}
+use Rattle.std.specs.Array.{MapsFrom, IsMapOf}
+use Rattle.std.specs.Fn.{Called}
+
+module _ {F A B : Type 0} (g : Mut F (A × Unit {0}) B) (f : F) (h : A → B) where
+  abbrev Computes : Type 0
+  Computes = (x : A) (y : B) (q : F) → Called g f (x, tt) y q → (q ≡ f) × (y ≡ h x)
+
+  mapped_from : Computes → (n i : ℕ) (xs : List A) (ys : List B) → length xs ≡ i + n → length ys ≡ i + n
+      → MapsFrom g f xs ys i n → drop i ys ≡ map h (drop i xs)
+  mapped_from k zero i xs ys hx hy m =
+      let nx : length xs ≤ i = omega arith in
+      let ny : length ys ≤ i = omega arith in
+      rw (drop_of_length-le xs nx, drop_of_length-le ys ny)
+  mapped_from k (suc n) i xs ys hx hy (q, x, y, ex, ey, call, rest) =
+      let nx : i < length xs = omega arith in
+      let ny : i < length ys = omega arith in
+      let gave = k x y q call in
+      let more = subst (λ (p : F). MapsFrom g p xs ys (i + 1) n) gave.0 rest in
+      rw (drop-cons xs i x nx, drop-cons ys i y ny, ex.0, ey.0)
+      (ap₂ ◌∷◌ gave.1 (rw add-one at (mapped_from k n (i + 1) xs ys (omega arith) (omega arith) more)))
+
+  pub mapped : (n : ℕ) (xs : List A) (ys : List B) → length xs ≡ n → IsMapOf g f xs ys n → Computes → ys ≡ map h xs
+  mapped n xs ys hx m k =
+      let long : length ys ≡ n = m.long in
+      mapped_from k n 0 xs ys (omega arith) (omega arith) m.each
