@@ -62,12 +62,12 @@ fn shifted(idle: f32, m: [f32; 4]) -> [f32; 4]
     ensures { result ≡ shifted idle m }
 {
     let by = shift(idle, least(&m), largest(&m));
-    m.map(|x|
-        requires { Between 0f 1f idle }
-        ensures { result ≡ floor_clamp (x +f by) idle }
-    {
-        hold(x + by, idle)
-    })
+    m.map(
+        |x|
+            requires { Between 0f 1f idle }
+            ensures { result ≡ floor_clamp (x +f by) idle }
+        { hold(x + by, idle) },
+    )
 }
 
 // The torque is kept and the collective moved, so that each motor stays in idle..1; only a torque wider than that range

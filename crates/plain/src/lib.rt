@@ -20,11 +20,11 @@ fn raw_sums(torque_body: [f32; 3], thrust: f32) -> [f32; 4]
     let r = sanitise(torque_body[0]);
     let p = sanitise(torque_body[1]);
     let y = sanitise(torque_body[2]);
-    MIXER_X.map(|row|
-        ensures { result ≡ raw_sum t r p y row }
-    {
-        raw_sum(row, t, r, p, y)
-    })
+    MIXER_X.map(
+        |row|
+            ensures { result ≡ raw_sum t r p y row }
+        { raw_sum(row, t, r, p, y) },
+    )
 }
 
 // Torque and thrust to motors in 0..1. Where a motor would pass 1, all are lowered; what is then under 0 is cut.

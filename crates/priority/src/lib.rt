@@ -14,7 +14,7 @@ ghost use Rattle.rules.specs.Priority.{roll_pitch_scale, priority_motor, priorit
 
 use number::{clamp_floor, limit, sanitise};
 use rotors::command::lift;
-use rotors::rows::{M1, M2, M3, M4};
+use rotors::rows::MIXER_X;
 
 fn yaw_group(row: [f32; 4], y: f32) -> f32
     ensures { result ≡ yaw_group y row }
@@ -33,12 +33,11 @@ fn yaw_groups(y: f32) -> [f32; 4]
     ensures { result ≡ map (yaw_group (treated y)) quad_rows }
 {
     let y = sanitise(y);
-    [
-        yaw_group(M1, y),
-        yaw_group(M2, y),
-        yaw_group(M3, y),
-        yaw_group(M4, y),
-    ]
+    MIXER_X.map(
+        |row|
+            ensures { result ≡ yaw_group y row }
+        { yaw_group(row, y) },
+    )
 }
 
 // What roll and pitch torques ask of each motor.
@@ -47,19 +46,18 @@ fn roll_pitch_groups(r: f32, p: f32) -> [f32; 4]
 {
     let r = sanitise(r);
     let p = sanitise(p);
-    [
-        roll_pitch_group(M1, r, p),
-        roll_pitch_group(M2, r, p),
-        roll_pitch_group(M3, r, p),
-        roll_pitch_group(M4, r, p),
-    ]
+    MIXER_X.map(
+        |row|
+            ensures { result ≡ roll_pitch_group r p row }
+        { roll_pitch_group(row, r, p) },
+    )
 }
 
 // How much of the yaw fits beside all of roll and pitch.
 fn yaw_scale(floor: f32, base: f32, drp: [f32; 4], dy: [f32; 4]) -> f32
     ensures { result ≡ yaw_scale floor base drp dy }
 {
-    let base_rp = [base + drp[0], base + drp[1], base + drp[2], base + drp[3]];
+    let base_rp = drp.map(|rp| base + rp);
     fit::scale(&base_rp, &dy, floor)
 }
 
@@ -67,12 +65,7 @@ fn yaw_scale(floor: f32, base: f32, drp: [f32; 4], dy: [f32; 4]) -> f32
 fn roll_pitch_scale(floor: f32, base: f32, sy: f32, drp: [f32; 4], dy: [f32; 4]) -> f32
     ensures { result ≡ roll_pitch_scale floor base sy drp dy }
 {
-    let base_y = [
-        base + sy * dy[0],
-        base + sy * dy[1],
-        base + sy * dy[2],
-        base + sy * dy[3],
-    ];
+    let base_y = dy.map(|y| base + sy * y);
     fit::scale(&base_y, &drp, floor)
 }
 

@@ -55,15 +55,15 @@ pub fn deltas(torque_body: [f32; 3]) -> [f32; 4]
     let p = sanitise(torque_body[1]);
     let y = sanitise(torque_body[2]);
     if all_moderate(r, p, y) {
-        return MIXER_X.map(|row|
-            ensures { result ≡ roll_of row *f r +f pitch_of row *f p +f yaw_of row *f y }
-        {
-            asked(row, r, p, y)
-        });
+        return MIXER_X.map(
+            |row|
+                ensures { result ≡ roll_of row *f r +f pitch_of row *f p +f yaw_of row *f y }
+            { asked(row, r, p, y) },
+        );
     }
-    MIXER_X.map(|row|
-        ensures { result ≡ delta r p y row }
-    {
-        delta(row, r, p, y)
-    })
+    MIXER_X.map(
+        |row|
+            ensures { result ≡ delta r p y row }
+        { delta(row, r, p, y) },
+    )
 }

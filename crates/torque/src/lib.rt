@@ -1,5 +1,5 @@
 // The torque that motors give. Follows relay-mix-quad's `motors_to_torque_signs` (Apache-2.0, see NOTICE); changed:
-// written in Rattle with contracts, the loop written out.
+// written in Rattle with contracts, the loop as a fold.
 
 #![tactic(auto)]
 
@@ -9,17 +9,17 @@ ghost use Rattle.std.specs.Float.{nan};
 ghost use Rattle.binary32.specs.Arithmetic.{0f};
 ghost use Rattle.rules.specs.Torque.{summed, torque_of};
 
-use rotors::rows::{M1, M2, M3, M4};
+use rotors::rows::MIXER_X;
 
 // The products of one column of the rows with the motors, added up from +0 on, in order.
 fn column_sum(column: usize, motors: [f32; 4]) -> f32
     requires { column < 4 }
     ensures { result ≡ summed (λ row. get_or row column nan) 0f quad_rows motors }
 {
-    0.0 + M1[column] * motors[0]
-        + M2[column] * motors[1]
-        + M3[column] * motors[2]
-        + M4[column] * motors[3]
+    MIXER_X
+        .iter()
+        .zip(&motors)
+        .fold(0.0, |s, (row, m)| s + row[column] * *m)
 }
 
 // Roll, pitch and yaw sums of the motors by the rows.

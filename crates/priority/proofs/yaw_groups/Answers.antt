@@ -1,14 +1,13 @@
 -- `priority::yaw_groups` meets its contract: the four groups are those of the quad's rows. Assumes nothing.
+use mathlib.Core.Path.{refl}
+use Rattle.std.proofs.Common.{rules}
+use Rattle.general.proofs.Mapped.{mapped}
+use Rattle.number.specs.Treat.{treated}
 use Rattle.rules.specs.Rows.{quad_rows}
+use Rattle.rules.specs.Priority.{yaw_group}
 use Rattle.priority.proofs.yaw_groups.Goals as goal
 
 pub returns : goal.returns
 unfolding quad_rows
 returns c =
-    simp (
-      c.yaw_group-4.ensures,
-      c.yaw_group-3.ensures,
-      c.yaw_group-2.ensures,
-      c.yaw_group.ensures,
-      c.sanitise-y.ensures,
-    )
+    mapped _ _ (yaw_group (treated c.args.y)) 4 quad_rows _ refl c.map.ensures.items (λ x z q k. search rules)
