@@ -18,15 +18,14 @@ use Rattle.quad.proofs.Determined as quad_determined
 use Rattle.frame.specs.declared.MixerN.{MixerN}
 use Rattle.frame.specs.Mixer.{made, FrameMixed}
 use Rattle.frame.proofs.Determined as frame_determined
-use Rattle.multi.specs.Wrench.{mix_number, Allocated}
+use Rattle.multi.specs.Wrench.{wrench, mix_number, Allocated}
 use Rattle.multi.proofs.Determined as multi_determined
-use Rattle.multi_thrust_floor.specs.declared.FloorAnswer.{FloorAnswer}
-use Rattle.multi_thrust_floor.specs.Floored.{floor_number, Floored}
+use Rattle.multi_thrust_floor.specs.Floored.{FloorAnswer, floor_number, Floored}
 use Rattle.multi_thrust_floor.proofs.Determined as floor_determined
 use Rattle.sheet.specs.Table.{judged, told_by}
 use Rattle.bodies.specs.Body.{handed_back, handed_at}
 use Rattle.sheet_run.proofs.Determined.{run_determined}
-use Rattle.exported.specs.Passed.{passed, wrench, told, Numbered, stored, FlooredAs, RanAs}
+use Rattle.exported.specs.Passed.{passed, told, Numbered, stored, FlooredAs, RanAs}
 
 -- two numbers that are told alike are the same
 same_told : (n m i j : ℕ) → told n i ≡ told m j → (n ≡ m) × (i ≡ j)

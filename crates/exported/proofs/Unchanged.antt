@@ -12,9 +12,8 @@ use Rattle.refusals.specs.Numbers.{accepted}
 use Rattle.refusals.specs.Told.{Told}
 use Rattle.quad.specs.declared.QuadMixer.{QuadMixer}
 use Rattle.multi.specs.declared.Wrench.{Wrench}
-use Rattle.multi_thrust_floor.specs.declared.FloorAnswer.{FloorAnswer}
-use Rattle.multi_thrust_floor.specs.declared.FloorAnswer.TheVariants.{Mixed, Refused}
-use Rattle.multi_thrust_floor.specs.Floored.{floor_number}
+use Rattle.std.specs.Prelude.{Ok, Err}
+use Rattle.multi_thrust_floor.specs.Floored.{FloorAnswer, floor_number}
 use Rattle.multi_thrust_floor.proofs.Refused as floor_refused
 use Rattle.exported.specs.Passed.{stored, FlooredAs, RanAs}
 
@@ -41,8 +40,8 @@ run_unwritten s before out number i after written h refused =
 
 -- what is held for a scale stays where the answer has none
 held_stays : (answer : FloorAnswer) (held : Float) → (floor_number answer ≡ accepted → ⊥) → stored answer held ≡ held
-held_stays (Mixed s) held not_0 = absurd (not_0 refl)
-held_stays Refused held not_0 = refl
+held_stays (Ok s) held not_0 = absurd (not_0 refl)
+held_stays (Err bad) held not_0 = refl
 
 pub mix_thrust_floor_unchanged : (run : List Float) (w : Wrench) (floor : Float) (before : List Float) (held : Float)
     (number : ℕ) (after : List Float) (scale : Float)

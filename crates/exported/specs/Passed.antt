@@ -1,15 +1,11 @@
 -- How structs and enums pass to C and back: as floats and numbers. (The quad's state passes as the struct that it is,
 -- and needs no definition.) Definitions only.
-use Rattle.std.specs.Prelude.{◌≡◌, List, ℕ, get_or, Float}
-use Rattle.std.specs.Float.{nan}
+use Rattle.std.specs.Prelude.{◌≡◌, List, ℕ, Float, Ok, Err}
 use Rattle.refusals.specs.Told.{Told}
 use Rattle.frame.specs.declared.MixerN.{MixerN}
 use Rattle.multi.specs.declared.Wrench.{Wrench}
-use Rattle.multi.specs.declared.MixAnswer.{MixAnswer}
-use Rattle.multi.specs.Wrench.{mix_number, RowsMixed}
-use Rattle.multi_thrust_floor.specs.declared.FloorAnswer.{FloorAnswer}
-use Rattle.multi_thrust_floor.specs.declared.FloorAnswer.TheVariants.{Mixed as mixed, Refused as refused}
-use Rattle.multi_thrust_floor.specs.Floored.{floor_number, RowsFloored}
+use Rattle.multi.specs.Wrench.{MixAnswer, mix_number, RowsMixed}
+use Rattle.multi_thrust_floor.specs.Floored.{FloorAnswer, floor_number, RowsFloored}
 use Rattle.quad.specs.declared.QuadMixer.{QuadMixer}
 use Rattle.sheet.specs.declared.Verdict.{Verdict}
 use Rattle.sheet.specs.Table.{told_by}
@@ -18,10 +14,6 @@ use Rattle.sheet_run.specs.Run.{Ran}
 -- the mixer of a matrix and a count
 abbrev pub passed : List Float → ℕ → MixerN
 passed matrix count = record { mix = matrix; n = count }
-
--- the wrench that four floats are: thrust, roll, pitch and yaw
-abbrev pub wrench : List Float → Wrench
-wrench v = record { thrust = get_or v 0 nan; roll = get_or v 1 nan; pitch = get_or v 2 nan; yaw = get_or v 3 nan }
 
 -- what a sheet is told, as document 01's number and the entry number
 abbrev pub told : ℕ → ℕ → Told
@@ -37,8 +29,8 @@ pub record Numbered (run : List Float) (w : Wrench) (before : List Float) (numbe
 -- what is stored for a scale by `multi_thrust_floor::mix`: the one that comes with the answer, or what was held where
 -- none does
 abbrev pub stored : FloorAnswer → Float → Float
-stored (mixed s) held = s
-stored refused held = held
+stored (Ok s) held = s
+stored (Err bad) held = held
 
 -- `multi_thrust_floor::mix`, whose answer passes as document 01's number and the scale
 pub record FlooredAs (run : List Float) (w : Wrench) (floor : Float) (before : List Float) (held : Float)

@@ -13,11 +13,9 @@ use frame::MixerN;
 pub extern "C" fn footspandle_mixer_n_new(rows: &[f32; 32], n: usize, mix: &mut [f32; 32]) -> usize
     ensures { passed mix.new result ≡ made rows.now n }
 {
-    let run = *rows;
-    let mixer = MixerN::new(run, n);
-    let matrix = mixer.mix;
+    let MixerN { mix: matrix, n } = MixerN::new(*rows, n);
     *mix = matrix;
-    mixer.n
+    n
 }
 
 // The count: the one that the mixer passes with.
@@ -25,19 +23,16 @@ pub extern "C" fn footspandle_mixer_n_new(rows: &[f32; 32], n: usize, mix: &mut 
 pub extern "C" fn footspandle_mixer_n_n(mix: &[f32; 32], n: usize) -> usize
     ensures { result ≡ (passed mix.now n).n }
 {
-    let matrix = *mix;
-    let mixer = MixerN { mix: matrix, n };
-    mixer.n()
+    MixerN { mix: *mix, n }.n()
 }
 
 #[unsafe(no_mangle)]
 pub extern "C" fn footspandle_mixer_n_quad_x(mix: &mut [f32; 32]) -> usize
     ensures { passed mix.new result ≡ made (run_of quad_x_rows) 4 }
 {
-    let mixer = MixerN::quad_x();
-    let matrix = mixer.mix;
+    let MixerN { mix: matrix, n } = MixerN::quad_x();
     *mix = matrix;
-    mixer.n
+    n
 }
 
 #[unsafe(no_mangle)]
@@ -50,10 +45,7 @@ pub extern "C" fn footspandle_mixer_n_mix(
 )
     ensures { FrameMixed (rows_of mix.now) torque_body.now thrust motors.new }
 {
-    let matrix = *mix;
-    let torque = *torque_body;
-    let mixer = MixerN { mix: matrix, n };
-    *motors = mixer.mix(torque, thrust);
+    *motors = MixerN { mix: *mix, n }.mix(*torque_body, thrust);
 }
 
 #[unsafe(no_mangle)]
@@ -65,8 +57,5 @@ pub extern "C" fn footspandle_mixer_n_achieved_wrench(
 )
     ensures { wrench.new ≡ achieved (rows_of mix.now) motors.now }
 {
-    let matrix = *mix;
-    let m = *motors;
-    let mixer = MixerN { mix: matrix, n };
-    *wrench = mixer.achieved_wrench(m);
+    *wrench = MixerN { mix: *mix, n }.achieved_wrench(*motors);
 }

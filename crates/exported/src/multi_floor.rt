@@ -1,10 +1,12 @@
 // Thrust-floor by lent rows, exported to C. A wrench is lent as its four floats: thrust, roll, pitch, yaw.
 ghost use Rattle.rules.specs.Rows.{hex_rows, octo_rows};
+ghost use Rattle.multi.specs.Wrench.{wrench};
 ghost use Rattle.multi_thrust_floor.specs.Floored.{Floored};
-ghost use Rattle.exported.specs.Passed.{wrench, FlooredAs};
+ghost use Rattle.exported.specs.Passed.{FlooredAs};
 
-use crate::multi_mixer::wrench;
-use multi_thrust_floor::{FloorAnswer, mix, mix_hex_x, mix_octo_coax};
+use multi::Wrench;
+use multi_thrust_floor::{mix, mix_hex_x, mix_octo_coax};
+use thrust_floor::MotorsAndScale;
 
 // Document 01's number: 0 with the scale stored, or 10 with the outputs and what stands for a scale as they were.
 #[unsafe(no_mangle)]
@@ -18,12 +20,12 @@ pub extern "C" fn footspandle_mixer_mix_thrust_floor(
     ensures { FlooredAs rows.now (wrench w.now) floor out.old scale.old
         result out.new scale.new }
 {
-    match mix(rows, wrench(w), floor, out) {
-        FloorAnswer::Mixed(s) => {
+    match mix(rows, Wrench::from(*w), floor, out) {
+        Ok(s) => {
             *scale = s;
             0
         }
-        FloorAnswer::Refused => 10,
+        Err(bad) => bad.into(),
     }
 }
 
@@ -36,10 +38,9 @@ pub extern "C" fn footspandle_mix_thrust_floor_hex_x(
 ) -> f32
     ensures { Floored hex_rows (wrench w.now) floor out.new result }
 {
-    let mixed = mix_hex_x(wrench(w), floor);
-    let motors = mixed.motors;
+    let MotorsAndScale { motors, scale } = mix_hex_x(Wrench::from(*w), floor);
     *out = motors;
-    mixed.scale
+    scale
 }
 
 // The scale.
@@ -51,8 +52,7 @@ pub extern "C" fn footspandle_mix_thrust_floor_octo_coax(
 ) -> f32
     ensures { Floored octo_rows (wrench w.now) floor out.new result }
 {
-    let mixed = mix_octo_coax(wrench(w), floor);
-    let motors = mixed.motors;
+    let MotorsAndScale { motors, scale } = mix_octo_coax(Wrench::from(*w), floor);
     *out = motors;
-    mixed.scale
+    scale
 }

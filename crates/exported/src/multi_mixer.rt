@@ -2,30 +2,18 @@
 ghost use Rattle.std.specs.Prelude.{◌≡◌};
 ghost use Rattle.number.specs.Treat.{unit_clamp};
 ghost use Rattle.rules.specs.Rows.{run_of, hex_rows, octo_rows};
-ghost use Rattle.multi.specs.Wrench.{mix_number, Allocated};
-ghost use Rattle.exported.specs.Passed.{wrench, Numbered};
+ghost use Rattle.multi.specs.Wrench.{wrench, mix_number, Allocated};
+ghost use Rattle.exported.specs.Passed.{Numbered};
 
-use multi::{MixAnswer, Wrench};
-
-// The wrench that four floats are.
-pub(crate) fn wrench(w: &[f32; 4]) -> Wrench
-    ensures { result ≡ wrench w.now }
-{
-    Wrench {
-        thrust: w[0],
-        roll: w[1],
-        pitch: w[2],
-        yaw: w[3],
-    }
-}
+use multi::{BadRows, Wrench};
 
 // Document 01's number.
-fn number(answer: MixAnswer) -> u32
+fn number(answer: Result<(), BadRows>) -> u32
     ensures { result ≡ mix_number answer }
 {
     match answer {
-        MixAnswer::Mixed => 0,
-        MixAnswer::Refused => 10,
+        Ok(()) => 0,
+        Err(bad) => bad.into(),
     }
 }
 
@@ -41,7 +29,7 @@ pub extern "C" fn footspandle_clamp01(x: f32) -> f32
 pub extern "C" fn footspandle_mixer_mix(rows: &[f32], w: &[f32; 4], out: &mut [f32]) -> u32
     ensures { Numbered rows.now (wrench w.now) out.old result out.new }
 {
-    number(multi::mix(rows, wrench(w), out))
+    number(multi::mix(rows, Wrench::from(*w), out))
 }
 
 #[unsafe(no_mangle)]
@@ -62,12 +50,12 @@ pub extern "C" fn footspandle_octo_coax(rows: &mut [f32; 32])
 pub extern "C" fn footspandle_mix_hex_x(w: &[f32; 4], out: &mut [f32; 6])
     ensures { Allocated hex_rows (wrench w.now) out.new }
 {
-    *out = multi::mix_hex_x(wrench(w));
+    *out = multi::mix_hex_x(Wrench::from(*w));
 }
 
 #[unsafe(no_mangle)]
 pub extern "C" fn footspandle_mix_octo_coax(w: &[f32; 4], out: &mut [f32; 8])
     ensures { Allocated octo_rows (wrench w.now) out.new }
 {
-    *out = multi::mix_octo_coax(wrench(w));
+    *out = multi::mix_octo_coax(Wrench::from(*w));
 }

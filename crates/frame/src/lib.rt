@@ -9,9 +9,9 @@
 
 #![tactic(auto)]
 
-ghost use Rattle.std.specs.Prelude.{◌≡◌, map, ◌*◌, min, length};
+ghost use Rattle.std.specs.Prelude.{◌≡◌, map, length};
 ghost use Rattle.number.specs.Treat.{treated};
-ghost use Rattle.rules.specs.Rows.{rows_of, run_of, quad_x_rows};
+ghost use Rattle.rules.specs.Rows.{run_of, quad_x_rows};
 ghost use Rattle.rules.specs.Plain.{raw_sums};
 ghost use Rattle.rules.specs.Torque.{achieved};
 ghost use Rattle.frame.specs.Mixer.{made, rows_in, FrameMixed};
@@ -19,7 +19,7 @@ ghost use Rattle.frame.specs.Mixer.{made, rows_in, FrameMixed};
 use lowering::lower_and_limit;
 use number::sanitise;
 use rotors::command::raw_sum;
-use rotors::rows::row_at;
+use rotors::rows::rows_of;
 
 // How many rows a matrix has.
 pub const MAX_ROTORS: usize = 8;
@@ -32,47 +32,35 @@ pub struct MixerN {
     pub n: usize,
 }
 
-fn at_most_max(n: usize) -> usize
-    ensures { result ≡ min n 8 }
-{
-    if n > MAX_ROTORS { MAX_ROTORS } else { n }
-}
-
 // Each row's sum, treated by itself: an overflow asks for nothing.
-fn treated_sums(rows: &[f32], torque_body: [f32; 3], thrust: f32, m: &mut [f32])
-    requires { length rows.now ≡ 4 * length m.old }
-    ensures { m.new ≡ map treated (raw_sums (rows_of rows.now) torque_body thrust) }
+fn treated_sums(rows: &[[f32; 4]], torque_body: [f32; 3], thrust: f32, m: &mut [f32])
+    requires { length rows.now ≡ length m.old }
+    ensures { m.new ≡ map treated (raw_sums rows.now torque_body thrust) }
 {
     let t = sanitise(thrust);
     let r = sanitise(torque_body[0]);
     let p = sanitise(torque_body[1]);
     let y = sanitise(torque_body[2]);
-    let mut i = 0;
-    while i < m.len() {
-        let sum = raw_sum(row_at(rows, i), t, r, p, y);
+    for (i, row) in rows.iter().enumerate() {
+        let sum = raw_sum(*row, t, r, p, y);
         m[i] = sanitise(sum);
-        i += 1;
     }
 }
 
 // What treated motors give by their rows: sums from +0 on, rotor by rotor.
-fn wrench_of(rows: &[f32], motors: &[f32]) -> [f32; 4]
-    requires { length rows.now ≡ 4 * length motors.now }
-    ensures { result ≡ achieved (rows_of rows.now) motors.now }
+fn wrench_of(rows: &[[f32; 4]], motors: &[f32]) -> [f32; 4]
+    ensures { result ≡ achieved rows.now motors.now }
 {
     let mut thrust: f32 = 0.0;
     let mut roll: f32 = 0.0;
     let mut pitch: f32 = 0.0;
     let mut yaw: f32 = 0.0;
-    let mut i = 0;
-    while i < motors.len() {
-        let row = row_at(rows, i);
-        let m = sanitise(motors[i]);
+    for (row, motor) in rows.iter().zip(motors) {
+        let m = sanitise(*motor);
         thrust += row[0] * m;
         roll += row[1] * m;
         pitch += row[2] * m;
         yaw += row[3] * m;
-        i += 1;
     }
     [thrust, roll, pitch, yaw]
 }
@@ -84,7 +72,7 @@ impl MixerN {
     {
         MixerN {
             mix,
-            n: at_most_max(n),
+            n: n.min(MAX_ROTORS),
         }
     }
 
@@ -106,9 +94,8 @@ impl MixerN {
     pub fn mix(self, torque_body: [f32; 3], thrust: f32) -> [f32; MAX_ROTORS]
         ensures { FrameMixed (rows_in self) torque_body thrust result }
     {
-        let rows = self.mix;
         let mut m = [0.0; MAX_ROTORS];
-        treated_sums(&rows, torque_body, thrust, &mut m);
+        treated_sums(rows_of(&self.mix), torque_body, thrust, &mut m);
         lower_and_limit(&mut m);
         m
     }
@@ -118,8 +105,7 @@ impl MixerN {
     pub fn achieved_wrench(self, motors: [f32; MAX_ROTORS]) -> [f32; 4]
         ensures { result ≡ achieved (rows_in self) motors }
     {
-        let rows = self.mix;
-        wrench_of(&rows, &motors)
+        wrench_of(rows_of(&self.mix), &motors)
     }
 }
 

@@ -1,5 +1,5 @@
--- A run that a loop fills from the front: with what belongs at each place, or with what g makes of each number where it
--- stands. Assumes nothing.
+-- A run that a loop fills from the front: with what belongs at each place, with what g makes of what stands there in
+-- another, or of what stands there in itself. Assumes nothing.
 use mathlib.Core.Path.{◌≡◌, sym, ap, ◌∙◌}
 use mathlib.Core.List.{List, ◌++◌, map, append-nil}
 use Prim.Native.Nat.{ℕ, suc, ◌+◌, ◌≤◌, ◌<◌}
@@ -39,6 +39,21 @@ module _ {A : Type 0} where
   filled_all before after n hb ha =
       let nothing : length before ≤ n = omega arith in
       rw (take_all n after (omega arith), drop_of_length-le before nothing) (append-nil after)
+
+-- ---- a run that is being filled with what g makes of each of another, which is as long
+
+module _ {A B : Type 0} (g : A → B) (from : List A) (before : List B) (same : length from ≡ length before) where
+  -- a turn of the loop
+  pub fill_mapped : (now : List B) (i : ℕ) (c : A) (d : B) {b : B} → i < length before
+      → now ≡ filled before (map g from) i → b ≡ g (get_or from i c)
+      → set now i b ≡ filled before (map g from) (i + 1)
+  fill_mapped now i c d h is belongs =
+      fill before (map g from) now i d (length-map from g ∙ same) h is
+      (belongs ∙ sym (map_at g c d from i (rw same h)))
+
+  -- the end of it
+  pub filled_mapped : (i : ℕ) → length before ≡ i → filled before (map g from) i ≡ map g from
+  filled_mapped i e = filled_all before (map g from) i e (length-map from g ∙ same ∙ e)
 
 -- ---- a run that is being filled with what g makes of each number of its own, where it stands
 

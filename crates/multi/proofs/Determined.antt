@@ -11,19 +11,18 @@ use Rattle.rules.specs.Rows.{Row, run_of, hex_rows, octo_rows}
 use Rattle.rules.specs.Multi.{rows_refused}
 use Rattle.general.proofs.Determined.{Determined, equal_determined}
 use Rattle.multi.specs.declared.Wrench.{Wrench}
-use Rattle.multi.specs.declared.MixAnswer.{MixAnswer}
-use Rattle.multi.specs.declared.MixAnswer.TheVariants.{Mixed as mixed, Refused as refused}
-use Rattle.multi.specs.Wrench.{mix_number, Allocated, RowsMixed}
+use Rattle.std.specs.Prelude.{Ok, Err}
+use Rattle.multi.specs.Wrench.{MixAnswer, mix_number, Allocated, RowsMixed}
 
 allocated_determined : {rows : List Row} {w : Wrench} → Determined (Allocated rows w)
 allocated_determined r q h k = equal_determined r q h.is k.is
 
 -- the paper's number tells the cases of the answer apart
 number_tells : (a b : MixAnswer) → mix_number a ≡ mix_number b → a ≡ b
-number_tells mixed mixed e = refl
-number_tells refused refused e = refl
-number_tells mixed refused e = let no : ⊥ = omega arith in absurd no
-number_tells refused mixed e = let no : ⊥ = omega arith in absurd no
+number_tells (Ok a) (Ok b) e = refl
+number_tells (Err a) (Err b) e = refl
+number_tells (Ok a) (Err b) e = let no : ⊥ = omega arith in absurd no
+number_tells (Err a) (Ok b) e = let no : ⊥ = omega arith in absurd no
 
 -- ---- the public functions
 

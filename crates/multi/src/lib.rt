@@ -7,15 +7,16 @@
 
 mod tables;
 
-ghost use Rattle.std.specs.Prelude.{◌≡◌, ◌*◌, length};
+ghost use Rattle.std.specs.Prelude.{◌≡◌, is_err, IfOk, length};
 ghost use Rattle.number.specs.Treat.{unit_clamp};
 ghost use Rattle.rules.specs.Rows.{rows_of, run_of, hex_rows, octo_rows};
 ghost use Rattle.rules.specs.Multi.{rows_refused};
-ghost use Rattle.multi.specs.Wrench.{motors_of, RowsMixed, Allocated};
+ghost use Rattle.refusals.specs.Numbers.{bad_rows};
+ghost use Rattle.multi.specs.Wrench.{wrench, motors_of, RowsMixed, Allocated};
 
 use crate::tables::{HEX_X, OCTO_COAX};
 use rotors::command::raw_sum;
-use rotors::rows::row_at;
+use rotors::rows::rows_of;
 
 // What is asked of a frame: a collective thrust, and a torque about each axis.
 #[repr(C)]
@@ -27,13 +28,31 @@ pub struct Wrench {
     pub yaw: f32,
 }
 
-// What `mix` answers.
-#[derive(Clone, Copy)]
-pub enum MixAnswer {
-    // Number 0: the outputs are written.
-    Mixed,
-    // Number 10: they stay as they were.
-    Refused,
+// The wrench that four floats are: thrust, roll, pitch, yaw.
+impl From<[f32; 4]> for Wrench {
+    ghost from_gives = { λ v w. w ≡ wrench v };
+
+    fn from([thrust, roll, pitch, yaw]: [f32; 4]) -> Wrench {
+        Wrench {
+            thrust,
+            roll,
+            pitch,
+            yaw,
+        }
+    }
+}
+
+// Why lent rows are refused: they are not four floats for each output, or there are over 64 outputs.
+#[derive(Debug, Clone, Copy, PartialEq, Eq)]
+pub struct BadRows;
+
+// Document 01's number of it.
+impl From<BadRows> for u32 {
+    ghost from_gives = { λ _ n. n ≡ bad_rows };
+
+    fn from(_: BadRows) -> u32 {
+        10
+    }
 }
 
 // How many outputs a frame may have.
@@ -53,32 +72,45 @@ pub fn refused(floats: usize, outputs: usize) -> bool
     outputs > MAX_OUTPUTS || floats != 4 * outputs
 }
 
-// Each output from its row. The loop's test is the one that `row_at` makes, so that the compiler leaves that out and
-// takes four rows at once.
-fn allocate(rows: &[f32], w: Wrench, out: &mut [f32])
-    requires { length rows.now ≡ 4 * length out.old }
-    ensures { out.new ≡ motors_of w (rows_of rows.now) }
+// The rows of a run, one for each output, where it is not refused.
+pub fn rows_for(run: &[f32], outputs: usize) -> Result<&[[f32; 4]], BadRows>
+    ensures refused { is_err result ≡ rows_refused (length run.now) outputs }
+    ensures rows { IfOk result (λ rows. rows.now ≡ rows_of run.now) }
 {
-    let n = rows.len() / 4;
-    let mut i = 0;
-    while i < n {
-        let row = row_at(rows, i);
-        out[i] = clamp01(raw_sum(row, w.thrust, w.roll, w.pitch, w.yaw));
-        i += 1;
+    if refused(run.len(), outputs) {
+        return Err(BadRows);
+    }
+    Ok(rows_of(run))
+}
+
+// Each output from its row.
+fn allocate(rows: &[[f32; 4]], w: Wrench, out: &mut [f32])
+    requires { length rows.now ≡ length out.old }
+    ensures { out.new ≡ motors_of w rows.now }
+{
+    for (i, row) in rows.iter().enumerate() {
+        out[i] = clamp01(raw_sum(*row, w.thrust, w.roll, w.pitch, w.yaw));
     }
 }
 
 // A wrench to the commands of the rotors, by their rows: one run of floats, four (thrust, roll, pitch, yaw) for each
 // output. Where that is not what is lent, or there are over 64 outputs, it is refused, and the outputs stay as they
 // are.
-pub fn mix(rows: &[f32], w: Wrench, out: &mut [f32]) -> MixAnswer
+pub fn mix(rows: &[f32], w: Wrench, out: &mut [f32]) -> Result<(), BadRows>
     ensures { RowsMixed rows.now w out.old result out.new }
 {
-    if refused(rows.len(), out.len()) {
-        return MixAnswer::Refused;
-    }
-    allocate(rows, w, out);
-    MixAnswer::Mixed
+    allocate(rows_for(rows, out.len())?, w, out);
+    Ok(())
+}
+
+// The mix of a frame that has N rows.
+fn mixed<const N: usize>(rows: &[[f32; 4]], w: Wrench) -> [f32; N]
+    requires { length rows.now ≡ N }
+    ensures { Allocated rows.now w result }
+{
+    let mut out = [0.0; N];
+    allocate(rows, w, &mut out);
+    out
 }
 
 // The rows of six rotors, 60 degrees apart, each spinning against its neighbours.
@@ -92,10 +124,7 @@ pub fn hex_x() -> [f32; 24]
 pub fn mix_hex_x(w: Wrench) -> [f32; 6]
     ensures { Allocated hex_rows w result }
 {
-    let rows = hex_x();
-    let mut out = [0.0; 6];
-    allocate(&rows, w, &mut out);
-    out
+    mixed(rows_of(&hex_x()), w)
 }
 
 // The rows of four arms with two rotors each, one over the other, which spin against each other.
@@ -109,8 +138,5 @@ pub fn octo_coax() -> [f32; 32]
 pub fn mix_octo_coax(w: Wrench) -> [f32; 8]
     ensures { Allocated octo_rows w result }
 {
-    let rows = octo_coax();
-    let mut out = [0.0; 8];
-    allocate(&rows, w, &mut out);
-    out
+    mixed(rows_of(&octo_coax()), w)
 }

@@ -3,21 +3,21 @@
 use mathlib.Core.Path.{◌≡◌, ap, ◌∙◌}
 use mathlib.Core.Bool.{true, false}
 use mathlib.Core.List.{List, [], ◌∷◌}
-use Prim.Native.Nat.{ℕ, ◌*◌}
+use Prim.Native.Nat.{ℕ}
 use native.Mathlib.Omega.{arith}
 use lib.Dec.{T}
-use lib.ListN.{length, length-map}
+use lib.ListN.{length}
 use lib.Ieee.{Float, binary32, fits}
 use Rattle.number.proofs.Choice.{taken, left}
-use Rattle.rules.specs.Rows.{Row, rows_of, run_of}
+use Rattle.rules.specs.Rows.{Row, rows_of}
 use Rattle.rules.specs.Command.{deltas}
 use Rattle.rules.specs.Multi.{rows_refused}
 use Rattle.refusals.specs.Numbers.{accepted, bad_rows}
 use Rattle.rules.specs.ThrustFloor.{thrust_floor_scale, thrust_floor_motors}
-use Rattle.rules.proofs.Runs.{rows_count}
 use Rattle.rules.proofs.Keeps.{thrust_floor_keeps}
 use Rattle.multi.specs.declared.Wrench.{Wrench}
-use Rattle.multi_thrust_floor.specs.declared.FloorAnswer.TheVariants.{Mixed as mixed, Refused as refused}
+use Rattle.std.specs.Prelude.{Ok, Err}
+use Rattle.multi.specs.declared.BadRows.{BadRows}
 use Rattle.multi_thrust_floor.specs.Floored.{wrench_torque, floored_motors, floored_scale, Floored, RowsFloored}
 use Rattle.multi_thrust_floor.specs.Granted.{Granted}
 
@@ -43,21 +43,6 @@ module _ {w : Wrench} {floor : Float} {motors : List Float} {scale : Float} wher
   floored_by_steps ft ff asked granted =
       floored (rw ft tt) (rw ff tt) (granted.is ∙ rw asked) (granted.scale_is ∙ rw asked)
 
-  -- by the rows of a table: a run that holds them
-  pub floored_by_table : {rows : List Row} {run ds : List Float} → run ≡ run_of rows → rows_of (run_of rows) ≡ rows
-      → fits binary32 w.thrust ≡ true
-      → fits binary32 floor ≡ true
-      → ds ≡ deltas (rows_of run) (wrench_torque w)
-      → Granted w.thrust floor ds motors scale
-      → Floored rows w floor motors scale
-  floored_by_table table holds ft ff asked granted = floored_by_steps ft ff (asked ∙ rw (table, holds)) granted
-
--- the deltas of a run that has four numbers for each of n outputs are as many
-pub asked_count : (run torque : List Float) (n : ℕ) {ds : List Float} → ds ≡ deltas (rows_of run) torque
-    → length run ≡ 4 * n → length ds ≡ n
-unfolding deltas
-asked_count run torque n asked four_each = ap length asked ∙ length-map (rows_of run) _ ∙ rows_count n run four_each
-
 -- no scale is none, and of one scale there is one
 no_scale : (s : Float) → [] ≡ s ∷ [] → ⊥
 no_scale s e = let z : ◌≡◌ {A = ℕ} 0 1 = ap length e in omega arith
@@ -66,7 +51,8 @@ one_scale_lem : {s t : Float} → s ∷ [] ≡ t ∷ [] → s ≡ t
 one_scale_lem e = cc
 
 module _ {run : List Float} {w : Wrench} {floor : Float} {before : List Float} where
-  pub answer_refused : rows_refused (length run) (length before) ≡ true → RowsFloored run w floor before refused before
+  pub answer_refused : {bad : BadRows} → rows_refused (length run) (length before) ≡ true
+      → RowsFloored run w floor before (Err bad) before
   answer_refused e = record {
     number = taken bad_rows accepted e;
     scale = taken [] _ e;
@@ -76,7 +62,7 @@ module _ {run : List Float} {w : Wrench} {floor : Float} {before : List Float} w
 
   pub answer_mixed : {after : List Float} {s : Float} → rows_refused (length run) (length before) ≡ false
       → Floored (rows_of run) w floor after s
-      → RowsFloored run w floor before (mixed s) after
+      → RowsFloored run w floor before (Ok s) after
   answer_mixed e h = record {
     number = left bad_rows accepted e;
     scale = ap (λ (s : Float). s ∷ []) h.scale_is ∙ left [] _ e;

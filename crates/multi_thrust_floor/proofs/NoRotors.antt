@@ -10,8 +10,7 @@ use Rattle.rules.specs.Multi.{rows_refused}
 use Rattle.rules.specs.Command.{deltas}
 use Rattle.rules.specs.ThrustFloor.{one_scale, scaled_motors, thrust_floor_motors, thrust_floor_scale}
 use Rattle.multi.specs.declared.Wrench.{Wrench}
-use Rattle.multi_thrust_floor.specs.declared.FloorAnswer.{FloorAnswer}
-use Rattle.multi_thrust_floor.specs.Floored.{scale_answered, RowsFloored}
+use Rattle.multi_thrust_floor.specs.Floored.{FloorAnswer, scale_answered, RowsFloored}
 
 pub no_rotors : (w : Wrench) (floor : Float) (answer : FloorAnswer) (after : List Float)
     → RowsFloored [] w floor [] answer after

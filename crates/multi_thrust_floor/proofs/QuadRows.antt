@@ -11,8 +11,7 @@ use Rattle.rules.proofs.Rows.{quad_rows_lem}
 use Rattle.multi.specs.declared.Wrench.{Wrench}
 use Rattle.quad.specs.declared.QuadMixer.{QuadMixer}
 use Rattle.quad.specs.Mixes.{ThrustFloorGives}
-use Rattle.multi_thrust_floor.specs.declared.FloorAnswer.{FloorAnswer}
-use Rattle.multi_thrust_floor.specs.Floored.{wrench_torque, scale_answered, RowsFloored}
+use Rattle.multi_thrust_floor.specs.Floored.{FloorAnswer, wrench_torque, scale_answered, RowsFloored}
 
 -- four rows for four outputs are accepted
 four_accepted : rows_refused (length (run_of quad_rows)) 4 ≡ false

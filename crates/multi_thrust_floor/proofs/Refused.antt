@@ -9,8 +9,7 @@ use Rattle.rules.specs.Rows.{rows_of}
 use Rattle.rules.specs.Multi.{rows_refused}
 use Rattle.refusals.specs.Numbers.{accepted, bad_rows}
 use Rattle.multi.specs.declared.Wrench.{Wrench}
-use Rattle.multi_thrust_floor.specs.declared.FloorAnswer.{FloorAnswer}
-use Rattle.multi_thrust_floor.specs.Floored.{floored_motors, floor_number, RowsFloored}
+use Rattle.multi_thrust_floor.specs.Floored.{FloorAnswer, floored_motors, floor_number, RowsFloored}
 
 pub refused_unchanged : (run : List Float) (w : Wrench) (floor : Float) (before : List Float) (answer : FloorAnswer)
     (after : List Float)

@@ -1,14 +1,13 @@
 -- What the functions of this crate answer to a wrench and a floor (document 02, K6). The rule is that of the quad over
 -- these rows (`rules/specs/ThrustFloor`), and so are the promises. Definitions only; the quotations are document 02's.
-use Rattle.std.specs.Prelude.{◌≡◌, cond, List, [], ◌∷◌, ℕ, length, Float}
+use Rattle.std.specs.Prelude.{◌≡◌, cond, List, [], ◌∷◌, ℕ, length, Float, Result, Ok, Err}
 use Rattle.rules.specs.Rows.{Row, rows_of}
 use Rattle.rules.specs.Multi.{rows_refused}
 use Rattle.refusals.specs.Numbers.{accepted, bad_rows}
 use Rattle.rules.specs.ThrustFloor.{thrust_floor_motors, thrust_floor_scale}
 use Rattle.rules.specs.Promises.{ThrustFloorKeeps}
 use Rattle.multi.specs.declared.Wrench.{Wrench}
-use Rattle.multi_thrust_floor.specs.declared.FloorAnswer.{FloorAnswer}
-use Rattle.multi_thrust_floor.specs.declared.FloorAnswer.TheVariants.{Mixed as mixed, Refused as refused}
+use Rattle.multi.specs.declared.BadRows.{BadRows}
 
 -- the torque of a wrench, as the rules take it
 abbrev pub wrench_torque : Wrench → List Float
@@ -22,14 +21,19 @@ floored_motors rows w floor = thrust_floor_motors rows (wrench_torque w) w.thrus
 abbrev pub floored_scale : List Row → Wrench → Float → Float
 floored_scale rows w floor = thrust_floor_scale rows (wrench_torque w) w.thrust floor
 
+-- what `mix` answers: the outputs are written, and this is the scale that their torque was given at; or they stay as
+-- they were, and there is no scale
+abbrev pub FloorAnswer : Type 0
+FloorAnswer = Result Float BadRows
+
 -- the paper's number for each case of the answer, and the scale that comes with it: none with a refusal
 abbrev pub floor_number : FloorAnswer → ℕ
-floor_number (mixed s) = accepted
-floor_number refused = bad_rows
+floor_number (Ok s) = accepted
+floor_number (Err bad) = bad_rows
 
 abbrev pub scale_answered : FloorAnswer → List Float
-scale_answered (mixed s) = s ∷ []
-scale_answered refused = []
+scale_answered (Ok s) = s ∷ []
+scale_answered (Err bad) = []
 
 -- the motors and the scale of these rows, by bits, and "the range, the fitting clause and the order clause of demand 3"
 pub record Floored (rows : List Row) (w : Wrench) (floor : Float) (motors : List Float) (scale : Float) : Type 0 where

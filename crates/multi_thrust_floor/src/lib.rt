@@ -5,57 +5,30 @@
 
 #![tactic(auto)]
 
-ghost use Rattle.std.specs.Prelude.{◌≡◌, map, ◌*◌, ◌≤◌, length};
-ghost use Rattle.rules.specs.Rows.{rows_of, hex_rows, octo_rows};
+ghost use Rattle.std.specs.Prelude.{◌≡◌, map, ◌≤◌, length};
+ghost use Rattle.rules.specs.Rows.{hex_rows, octo_rows};
 ghost use Rattle.rules.specs.Command.{deltas};
 ghost use Rattle.rules.specs.Multi.{max_outputs};
 ghost use Rattle.rules.specs.ThrustFloor.{scaled_motor};
 ghost use Rattle.multi_thrust_floor.specs.Floored.{wrench_torque, Floored, RowsFloored};
 ghost use Rattle.multi_thrust_floor.specs.Granted.{Granted};
 
-use multi::{MAX_OUTPUTS, Wrench, hex_x, octo_coax, refused};
+use multi::{BadRows, MAX_OUTPUTS, Wrench, hex_x, octo_coax, rows_for};
 use number::{limit, sanitise};
 use rotors::command::{delta, lift};
-use rotors::rows::row_at;
-use thrust_floor::scaled_motor;
-
-// What `mix` answers.
-#[derive(Clone, Copy)]
-pub enum FloorAnswer {
-    // Number 0: the outputs are written, and this is the scale that their torque was given at.
-    Mixed(f32),
-    // Number 10: they stay as they were, and there is no scale.
-    Refused,
-}
-
-// The motors of `hex_x`, and the scale that their torque was given at.
-#[derive(Clone, Copy)]
-pub struct Hex {
-    pub motors: [f32; 6],
-    pub scale: f32,
-}
-
-// The same of `octo_coax`.
-#[derive(Clone, Copy)]
-pub struct Octo {
-    pub motors: [f32; 8],
-    pub scale: f32,
-}
+use rotors::rows::rows_of;
+use thrust_floor::{MotorsAndScale, scaled_motor};
 
 // What the torque asks of each rotor, by its row: the deltas. A row's thrust is not read.
-fn ask(rows: &[f32], w: Wrench, out: &mut [f32])
-    requires { length rows.now ≡ 4 * length out.old }
-    ensures { out.new ≡ deltas (rows_of rows.now) (wrench_torque w) }
+fn ask(rows: &[[f32; 4]], w: Wrench, out: &mut [f32])
+    requires { length rows.now ≡ length out.old }
+    ensures { out.new ≡ deltas rows.now (wrench_torque w) }
 {
     let r = sanitise(w.roll);
     let p = sanitise(w.pitch);
     let y = sanitise(w.yaw);
-    let n = rows.len() / 4;
-    let mut i = 0;
-    while i < n {
-        let row = row_at(rows, i);
-        out[i] = delta(row, r, p, y);
-        i += 1;
+    for (i, row) in rows.iter().enumerate() {
+        out[i] = delta(*row, r, p, y);
     }
 }
 
@@ -63,10 +36,8 @@ fn ask(rows: &[f32], w: Wrench, out: &mut [f32])
 fn give(floor: f32, base: f32, s: f32, d: &mut [f32])
     ensures { d.new ≡ map (scaled_motor floor base s) d.old }
 {
-    let mut i = 0;
-    while i < d.len() {
-        d[i] = scaled_motor(floor, base, s, d[i]);
-        i += 1;
+    for x in d.iter_mut() {
+        *x = scaled_motor(floor, base, s, *x);
     }
 }
 
@@ -89,34 +60,35 @@ fn grant(thrust: f32, floor: f32, d: &mut [f32]) -> f32
 // so that each command stays in floor..1. Where the run is not four floats for each output, or there are over 64
 // outputs, it is refused, and the outputs stay as they are. (The outputs hold the deltas until the scale is found,
 // since there is a place for each.)
-pub fn mix(rows: &[f32], w: Wrench, floor: f32, out: &mut [f32]) -> FloorAnswer
+pub fn mix(rows: &[f32], w: Wrench, floor: f32, out: &mut [f32]) -> Result<f32, BadRows>
     ensures { RowsFloored rows.now w floor out.old result out.new }
 {
-    if refused(rows.len(), out.len()) {
-        return FloorAnswer::Refused;
-    }
-    ask(rows, w, out);
-    FloorAnswer::Mixed(grant(w.thrust, floor, out))
+    ask(rows_for(rows, out.len())?, w, out);
+    Ok(grant(w.thrust, floor, out))
+}
+
+// The mix of a frame that has N rows.
+fn mixed<const N: usize>(rows: &[[f32; 4]], w: Wrench, floor: f32) -> MotorsAndScale<N>
+    requires each { length rows.now ≡ N }
+    requires most { N ≤ max_outputs }
+    ensures { Floored rows.now w floor result.motors result.scale }
+{
+    let mut motors = [0.0; N];
+    ask(rows, w, &mut motors);
+    let scale = grant(w.thrust, floor, &mut motors);
+    MotorsAndScale { motors, scale }
 }
 
 // The mix of `hex_x`'s six rows.
-pub fn mix_hex_x(w: Wrench, floor: f32) -> Hex
+pub fn mix_hex_x(w: Wrench, floor: f32) -> MotorsAndScale<6>
     ensures { Floored hex_rows w floor result.motors result.scale }
 {
-    let rows = hex_x();
-    let mut motors = [0.0; 6];
-    ask(&rows, w, &mut motors);
-    let scale = grant(w.thrust, floor, &mut motors);
-    Hex { motors, scale }
+    mixed(rows_of(&hex_x()), w, floor)
 }
 
 // The mix of `octo_coax`'s eight rows.
-pub fn mix_octo_coax(w: Wrench, floor: f32) -> Octo
+pub fn mix_octo_coax(w: Wrench, floor: f32) -> MotorsAndScale<8>
     ensures { Floored octo_rows w floor result.motors result.scale }
 {
-    let rows = octo_coax();
-    let mut motors = [0.0; 8];
-    ask(&rows, w, &mut motors);
-    let scale = grant(w.thrust, floor, &mut motors);
-    Octo { motors, scale }
+    mixed(rows_of(&octo_coax()), w, floor)
 }

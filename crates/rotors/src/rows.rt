@@ -1,6 +1,6 @@
 // Rows: what thrust, roll, pitch and yaw each count for a motor.
-ghost use Rattle.std.specs.Prelude.{◌≡◌};
-ghost use Rattle.rules.specs.Rows.{row_at};
+ghost use Rattle.std.specs.Prelude.{◌≡◌, ℕ, get_or};
+ghost use Rattle.rules.specs.Rows.{rows_of, no_row, row_at};
 
 // The quad's rows. They follow relay-mix-quad's MIXER_X (Apache-2.0, see NOTICE); changed: written in Rattle, with
 // spins in words; each row has a name, so that a function that writes the four motors out reads no table.
@@ -14,14 +14,10 @@ pub const M4: [f32; 4] = [1.0, 1.0, 1.0, 1.0]; // front-left, counter-clockwise
 
 pub const MIXER_X: [[f32; 4]; 4] = [M1, M2, M3, M4];
 
-// The row of rotor i in a run that has four numbers for each rotor. Past the last it is a row of +0, which asks nothing
-// of a motor.
-pub fn row_at(run: &[f32], i: usize) -> [f32; 4]
-    ensures { result ≡ row_at run.now i }
+// The rows in a run that has four numbers for each rotor. What is left over at its end, under four, is no row.
+pub fn rows_of(run: &[f32]) -> &[[f32; 4]]
+    ensures rows { result.now ≡ rows_of run.now }
+    ensures past_the_last { (i : ℕ) → get_or result.now i no_row ≡ row_at run.now i }
 {
-    if i < run.len() / 4 {
-        let at = 4 * i;
-        return [run[at], run[at + 1], run[at + 2], run[at + 3]];
-    }
-    [0.0; 4]
+    run.as_chunks().0
 }

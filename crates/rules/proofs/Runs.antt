@@ -1,13 +1,12 @@
--- The rows that a run of numbers holds, found by their place; and a run that a loop fills with what it makes of each
--- row. Assumes nothing.
-use mathlib.Core.Path.{◌≡◌, refl, sym, ap, ◌∙◌}
-use mathlib.Core.List.{List, [], ◌∷◌, map}
-use Prim.Native.Nat.{ℕ, zero, suc, ◌+◌, ◌*◌, ◌<◌}
+-- The rows that a run of numbers holds, found by their place; how many they are; and that they are its chunks of four.
+-- Assumes nothing.
+use mathlib.Core.Path.{◌≡◌, refl, ap}
+use mathlib.Core.List.{List, [], ◌∷◌}
+use Prim.Native.Nat.{ℕ, zero, suc, ◌+◌, ◌*◌, ◌/◌, ◌<◌}
 use native.Mathlib.Omega.{arith}
-use lib.ListN.{length, get_or, set, length-map}
+use lib.ListN.{length, get_or}
 use lib.Ieee.{Float, nan}
-use Rattle.general.proofs.Lists.{map_at}
-use Rattle.general.proofs.Filled.{filled, fill, filled_all}
+use Rattle.std.specs.Simd.{first_chunks}
 use Rattle.rules.specs.Rows.{Row, rows_of, no_row, row_at}
 
 -- ---- the rows of a run
@@ -57,23 +56,17 @@ rows_count (suc n) (t ∷ []) h = let no : ⊥ = omega arith in absurd no
 rows_count (suc n) [] h = let no : ⊥ = omega arith in absurd no
 rows_count zero (t ∷ run) h = let no : ⊥ = omega arith in absurd no
 
--- ---- a run that is being filled with what g makes of each row of another, which has four numbers for each place
-
-module _ {A : Type 0} (g : Row → A) (rows : List Float) (before : List A)
-    (four_each : length rows ≡ 4 * length before) where
-  -- as many as there are places
-  made_length : length (map g (rows_of rows)) ≡ length before
-  made_length = length-map (rows_of rows) g ∙ rows_count (length before) rows four_each
-
-  -- a turn of the loop
-  pub fill_from_row : (now : List A) (i : ℕ) (d : A) {a : A} → i < length before
-      → now ≡ filled before (map g (rows_of rows)) i → a ≡ g (row_at rows i)
-      → set now i a ≡ filled before (map g (rows_of rows)) (i + 1)
-  unfolding row_at
-  fill_from_row now i d h is belongs =
-      fill before (map g (rows_of rows)) now i d made_length h is
-      (belongs ∙ sym (map_at g no_row d (rows_of rows) i (rw (rows_count (length before) rows four_each) h)))
-
-  -- the end of it
-  pub filled_from_rows : (i : ℕ) → length before ≡ i → filled before (map g (rows_of rows)) i ≡ map g (rows_of rows)
-  filled_from_rows i e = filled_all before (map g (rows_of rows)) i e (made_length ∙ e)
+-- the rows of a run are its chunks of four
+pub chunks_rows : (n : ℕ) (run : List Float) → length run / 4 ≡ n → first_chunks 4 n run ≡ rows_of run
+unfolding rows_of
+chunks_rows zero (t ∷ r ∷ p ∷ y ∷ run) h = let no : ⊥ = omega arith in absurd no
+chunks_rows (suc n) (t ∷ r ∷ p ∷ y ∷ run) h =
+    ap (λ (rows : List Row). (t ∷ r ∷ p ∷ y ∷ []) ∷ rows) (chunks_rows n run (omega arith))
+chunks_rows zero (t ∷ r ∷ p ∷ []) h = refl
+chunks_rows zero (t ∷ r ∷ []) h = refl
+chunks_rows zero (t ∷ []) h = refl
+chunks_rows zero [] h = refl
+chunks_rows (suc n) (t ∷ r ∷ p ∷ []) h = let no : ⊥ = omega arith in absurd no
+chunks_rows (suc n) (t ∷ r ∷ []) h = let no : ⊥ = omega arith in absurd no
+chunks_rows (suc n) (t ∷ []) h = let no : ⊥ = omega arith in absurd no
+chunks_rows (suc n) [] h = let no : ⊥ = omega arith in absurd no

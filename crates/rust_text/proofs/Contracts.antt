@@ -22,8 +22,7 @@ use Rattle.quad.specs.Mixes.{PlainGives, ThrustFloorGives, PriorityGives, Airmod
 use Rattle.frame.specs.declared.MixerN.{MixerN}
 use Rattle.frame.specs.Mixer.{made, rows_in, FrameMixed}
 use Rattle.multi.specs.declared.Wrench.{Wrench}
-use Rattle.multi.specs.declared.MixAnswer.{MixAnswer}
-use Rattle.multi.specs.Wrench.{Allocated, RowsMixed}
+use Rattle.multi.specs.Wrench.{MixAnswer, Allocated, RowsMixed}
 use Rattle.rust_text.specs.Numbers.{clamp01_of001}
 use Rattle.rust_text.specs.State.{Quad, Method, answered, new, last_motors, last_torque_scale}
 use Rattle.rust_text.specs.Plain.{mix}

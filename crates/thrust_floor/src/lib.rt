@@ -20,13 +20,13 @@ pub fn scaled_motor(floor: f32, base: f32, s: f32, d: f32) -> f32
 
 // The motors, and the scale that their torque was given at.
 #[derive(Clone, Copy)]
-pub struct MotorsAndScale {
-    pub motors: [f32; 4],
+pub struct MotorsAndScale<const N: usize> {
+    pub motors: [f32; N],
     pub scale: f32,
 }
 
 // The torque is scaled down, all of it alike, so that each motor stays in floor..1 and the thrust is kept.
-pub fn motors(torque_body: [f32; 3], thrust: f32, floor: f32) -> MotorsAndScale
+pub fn motors(torque_body: [f32; 3], thrust: f32, floor: f32) -> MotorsAndScale<4>
     ensures { result ≡ record {
       motors = thrust_floor_motors quad_rows torque_body thrust floor;
       scale = thrust_floor_scale quad_rows torque_body thrust floor;
@@ -37,11 +37,6 @@ pub fn motors(torque_body: [f32; 3], thrust: f32, floor: f32) -> MotorsAndScale
     let d = deltas(torque_body);
     let bases = [base; 4];
     let s = fit::scale(&bases, &d, low);
-    let motors = [
-        scaled_motor(low, base, s, d[0]),
-        scaled_motor(low, base, s, d[1]),
-        scaled_motor(low, base, s, d[2]),
-        scaled_motor(low, base, s, d[3]),
-    ];
+    let motors = d.map(|d| scaled_motor(low, base, s, d));
     MotorsAndScale { motors, scale: s }
 }

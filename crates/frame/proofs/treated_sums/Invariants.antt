@@ -2,11 +2,9 @@
 -- others are as they were. Assumes nothing.
 use mathlib.Core.Path.{◌≡◌}
 use mathlib.Core.List.{map}
-use Prim.Native.Nat.{◌-◌, ◌≤◌}
-use lib.ListN.{length}
 use lib.Ieee.{Float}
 use Rattle.number.specs.Treat.{treated}
-use Rattle.rules.specs.Rows.{Row, rows_of}
+use Rattle.rules.specs.Rows.{Row}
 use Rattle.rules.specs.Plain.{raw_sum}
 use Rattle.general.proofs.Filled.{filled}
 use Rattle.frame.proofs.treated_sums.Given as goal
@@ -16,9 +14,4 @@ abbrev pub sum_of : Float → Float → Float → Float → Row → Float
 sum_of t r p y row = treated (raw_sum t r p y row)
 
 abbrev pub invariant-loop-i : goal.invariant-loop-i
-invariant-loop-i l =
-    (l.i ≤ length l.initial.m) × (length l.m ≡ length l.initial.m)
-    × (l.m ≡ filled l.initial.m (map (sum_of l.t l.r l.p l.y) (rows_of l.rows)) l.i)
-
-abbrev pub decreases-loop-i : goal.decreases-loop-i
-decreases-loop-i l = length l.initial.m - l.i
+invariant-loop-i l = l.m ≡ filled l.initial.m (map (sum_of l.t l.r l.p l.y) l.rows) l.i

@@ -1,41 +1,24 @@
 -- `multi::allocate` meets its contract. The loop's invariant: the outputs up to i are filled with the rule's motors,
 -- and the others are as they were. Assumes nothing.
-use mathlib.Core.Path.{refl, ◌∙◌}
+use mathlib.Core.Path.{◌∙◌}
+use mathlib.Core.List.{[]}
 use Prim.Native.Nat.{◌<◌}
 use native.Mathlib.Omega.{arith}
-use lib.ListN.{length, length-set}
+use lib.ListN.{length}
 use lib.Ieee.{nan}
-use borrow.Author.Rules.{scaled_Fits}
+use Rattle.general.proofs.Filled.{fill_mapped, filled_mapped}
 use Rattle.rules.specs.Multi.{wrench_motors}
-use Rattle.rules.proofs.Runs.{fill_from_row, filled_from_rows}
 use Rattle.multi.proofs.allocate.Invariants.{motor_of}
 use Rattle.multi.proofs.allocate.Goals as goal
 
-pub offset_bounds-out-i : goal.offset_bounds-out-i
-offset_bounds-out-i c =
-    scaled_Fits c.loop-i.i (length c.args.out.now) 4 (omega arith) c.well_formed.1.1.0.1
-
 pub loop-i-preserved : goal.loop-i-preserved
 loop-i-preserved c =
-    let rows = c.args.rows.now in
-    let w = c.args.w in
-    let out₀ = c.args.out.now in
-    let out = c.loop-i.out in
-    let i = c.loop-i.i in
-    let inv = c.loop-i.invariant in
-    let bound : i < length out₀ = omega arith in (
-      omega arith,
-      length-set out i _ ∙ inv.1,
-      fill_from_row (motor_of w) rows out₀ c.requires out i nan bound inv.2
-          (c.clamp01.ensures ∙ rw (c.raw_sum.ensures, c.row_at-row.ensures)),
-    )
+    let bound : c.loop-i.i < length c.args.out.now = omega arith in
+    fill_mapped (motor_of c.args.w) c.args.rows.now c.args.out.now c.requires c.loop-i.out c.loop-i.i [] nan bound
+    c.loop-i.invariant (c.clamp01.ensures ∙ rw c.raw_sum.ensures)
 
 pub returns : goal.returns
 unfolding wrench_motors
 returns c =
-    let out₀ = c.args.out.now in
-    c.loop-i.invariant.2 ∙ filled_from_rows (motor_of c.args.w) c.args.rows.now out₀ c.requires
-    c.loop-i.i (omega arith)
-
-pub loop-i-init : goal.loop-i-init
-loop-i-init c = (omega arith, refl, refl)
+    c.loop-i.invariant
+    ∙ filled_mapped (motor_of c.args.w) c.args.rows.now c.args.out.now c.requires c.loop-i.i (omega arith)

@@ -2,11 +2,9 @@
 -- and the others are as they were. Assumes nothing.
 use mathlib.Core.Path.{◌≡◌}
 use mathlib.Core.List.{map}
-use Prim.Native.Nat.{◌-◌, ◌≤◌}
-use lib.ListN.{length}
 use lib.Ieee.{Float}
 use Rattle.number.specs.Treat.{unit_clamp}
-use Rattle.rules.specs.Rows.{Row, rows_of}
+use Rattle.rules.specs.Rows.{Row}
 use Rattle.rules.specs.Plain.{raw_sum}
 use Rattle.general.proofs.Filled.{filled}
 use Rattle.multi.specs.declared.Wrench.{Wrench}
@@ -17,9 +15,4 @@ abbrev pub motor_of : Wrench → Row → Float
 motor_of w row = unit_clamp (raw_sum w.thrust w.roll w.pitch w.yaw row)
 
 abbrev pub invariant-loop-i : goal.invariant-loop-i
-invariant-loop-i l =
-    (l.i ≤ length l.initial.out) × (length l.out ≡ length l.initial.out)
-    × (l.out ≡ filled l.initial.out (map (motor_of l.w) (rows_of l.rows)) l.i)
-
-abbrev pub decreases-loop-i : goal.decreases-loop-i
-decreases-loop-i l = length l.initial.out - l.i
+invariant-loop-i l = l.out ≡ filled l.initial.out (map (motor_of l.w) l.rows) l.i

@@ -1,19 +1,20 @@
 -- `multi::mix` meets its contract: refused, the outputs are as they were; else they are the motors of the run's rows,
 -- which lie in 0..1. Assumes nothing.
-use mathlib.Core.Path.{sym, ◌∙◌}
+use mathlib.Core.Path.{◌∙◌, sym, ap}
 use lib.ListN.{length}
 use Rattle.rules.proofs.Rows.{four_each}
-use Rattle.multi.proofs.Answers.{answer_refused, answer_mixed}
+use Rattle.rules.proofs.Runs.{rows_count}
+use Rattle.multi.specs.Wrench.{motors_of}
+use Rattle.multi.proofs.Answers.{answer_mixed}
 use Rattle.multi.proofs.mix.Goals as goal
-
-pub returns-then-refused : goal.returns-then-refused
-returns-then-refused c = answer_refused (sym c.refused.ensures ∙ c.if-refused.true)
 
 pub allocate-requires : goal.allocate-requires
 allocate-requires c =
-    four_each (length c.args.rows.now) (length c.args.out.now)
-    (sym c.refused.ensures ∙ c.if-refused.false)
+    let run = c.args.rows.now in
+    rw c.in_ok-rows_for.ensures.rows
+    (rows_count (length c.args.out.now) run (four_each (length run) _ (sym c.in_ok-rows_for.ensures.refused)))
 
 pub returns : goal.returns
 returns c =
-    answer_mixed (sym c.refused.ensures ∙ c.if-refused.false) c.allocate.ensures
+    answer_mixed (sym c.in_ok-rows_for.ensures.refused)
+    (c.allocate.ensures ∙ ap (motors_of c.args.w) c.in_ok-rows_for.ensures.rows)

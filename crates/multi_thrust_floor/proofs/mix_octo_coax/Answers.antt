@@ -1,11 +1,15 @@
--- `multi_thrust_floor::mix_octo_coax` meets its contract: the rows of the table's run are document 01's. Assumes
--- nothing.
+-- `multi_thrust_floor::mix_octo_coax` meets its contract: the rows of the table's run are document 01's eight. Assumes nothing.
+use native.Mathlib.Omega.{arith}
+use Rattle.rules.specs.Rows.{octo_rows}
 use Rattle.rules.proofs.Rows.{octo_rows_lem}
-use Rattle.multi_thrust_floor.proofs.Answers.{floored_by_table}
 use Rattle.multi_thrust_floor.proofs.mix_octo_coax.Goals as goal
 
+pub mixed-requires : goal.mixed-requires
+unfolding octo_rows
+mixed-requires c = (
+  omega arith,
+  (rw (c.rows_of.ensures.rows, c.octo_coax.ensures, octo_rows_lem), omega arith),
+)
+
 pub returns : goal.returns
-returns c =
-    let good = c.well_formed in
-    floored_by_table c.octo_coax-rows.ensures octo_rows_lem good.0.1.1.0.1 good.1.0.1
-    c.ask.ensures c.grant-scale.ensures
+returns c = rw (c.rows_of.ensures.rows, c.octo_coax.ensures, octo_rows_lem) at c.mixed.ensures

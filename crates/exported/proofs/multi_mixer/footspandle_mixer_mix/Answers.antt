@@ -7,5 +7,5 @@ returns c =
     record {
       answer = c.mix.result;
       number_is = c.number.ensures;
-      mixed = rw c.wrench.ensures at c.mix.ensures;
+      mixed = rw c.from.ensures at c.mix.ensures;
     }

@@ -1,6 +1,0 @@
--- `exported::multi_floor::footspandle_mix_thrust_floor_hex_x` meets its contract: the mix of the wrench that was lent.
--- Assumes nothing.
-use Rattle.exported.proofs.multi_floor.footspandle_mix_thrust_floor_hex_x.Goals as goal
-
-pub returns : goal.returns
-returns c = rw c.wrench.ensures at c.mix_hex_x-mixed.ensures
