@@ -6,8 +6,8 @@ ghost use Rattle.std.specs.Prelude.{◌≡◌};
 ghost use Rattle.bodies.specs.Body.{Handed};
 ghost use Rattle.bodies.specs.Place.{place_of};
 
-use entries::layout::{body_size, count, kind, offset};
-use sheet::{Verdict, check};
+use entries::layout::{Entry, body_size, count};
+use sheet::check;
 
 // A part of a sheet: where it begins, and how many bytes it has.
 #[derive(Clone, Copy)]
@@ -21,16 +21,19 @@ pub struct Part {
 pub fn place(sheet: &[u8], i: usize) -> Part
     ensures { result ≡ place_of sheet.now i }
 {
-    let Verdict::Accepted = check(sheet) else {
+    let Ok(()) = check(sheet) else {
         return Part { at: 0, size: 0 };
     };
     if i >= count(sheet) as usize {
         return Part { at: 0, size: 0 };
     }
-    let number = i as u8;
+    let entry = Entry {
+        sheet,
+        number: i as u8,
+    };
     Part {
-        at: offset(sheet, number) as usize,
-        size: body_size(kind(sheet, number)),
+        at: entry.offset() as usize,
+        size: body_size(entry.kind()),
     }
 }
 

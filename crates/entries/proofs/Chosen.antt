@@ -6,7 +6,7 @@ use Prim.Native.Nat.{ℕ}
 use lib.Dec.{eqb}
 use Rattle.refusals.specs.Numbers.{accepted}
 use Rattle.entries.specs.declared.choice.Case.{Case}
-use Rattle.entries.specs.declared.choice.Choice.TheVariants.{Is, Refused}
+use Rattle.std.specs.declared.result.Result.TheVariants.{Ok, Err}
 use Rattle.entries.specs.declared.refusal.Refusal.{Refusal}
 use Rattle.entries.specs.declared.refusal.Refusal.TheVariants.{TooShort, BadVersion, TooMany, BadLength, BadKind}
 use Rattle.entries.specs.declared.refusal.Refusal.TheVariants.{BadRotor, BadOffset, BadEnd, ShortOutput}
@@ -27,15 +27,15 @@ never_accepted ShortOutput = refl
 
 -- ---- from the number to the answer
 
-pub case_chosen : {number : ℕ} {c d : Case} → number ≡ accepted → d ≡ c → Chosen number c (Is d)
+pub case_chosen : {number : ℕ} {c d : Case} → number ≡ accepted → d ≡ c → Chosen number c (Ok d)
 case_chosen n e = record { told = rw n; cases = rw (n, e) }
 
-pub refusal_chosen : {number : ℕ} {c : Case} (r : Refusal) → number ≡ refusal_number r → Chosen number c (Refused r)
+pub refusal_chosen : {number : ℕ} {c : Case} (r : Refusal) → number ≡ refusal_number r → Chosen number c (Err r)
 refusal_chosen r n = record { told = sym n; cases = rw (n, never_accepted r) }
 
 -- ---- from the answer to the number
 
-pub chosen_case : {number : ℕ} {c d : Case} → Chosen number c (Is d) → (number ≡ accepted) × (d ≡ c)
+pub chosen_case : {number : ℕ} {c d : Case} → Chosen number c (Ok d) → (number ≡ accepted) × (d ≡ c)
 chosen_case {number} {c} {d} h = (sym h.told, same)
   where
     list : d ∷ [] ≡ c ∷ []
@@ -44,5 +44,5 @@ chosen_case {number} {c} {d} h = (sym h.told, same)
     same : d ≡ c
     same = cc
 
-pub chosen_refusal : {number : ℕ} {c : Case} {r : Refusal} → Chosen number c (Refused r) → number ≡ refusal_number r
+pub chosen_refusal : {number : ℕ} {c : Case} {r : Refusal} → Chosen number c (Err r) → number ≡ refusal_number r
 chosen_refusal h = sym h.told

@@ -10,8 +10,8 @@ use Rattle.refusals.specs.Numbers.{accepted, too_short, bad_version, too_many, b
 use Rattle.refusals.specs.Numbers.{bad_kind, bad_rotor, bad_offset, bad_end}
 use Rattle.general.proofs.Determined.{Determined, equal_determined}
 use Rattle.entries.specs.declared.choice.Case.{Case}
-use Rattle.entries.specs.declared.choice.Choice.{Choice}
-use Rattle.entries.specs.declared.choice.Choice.TheVariants.{Is, Refused}
+use Rattle.std.specs.declared.result.Result.{Result}
+use Rattle.std.specs.declared.result.Result.TheVariants.{Ok, Err}
 use Rattle.entries.specs.declared.refusal.Refusal.{Refusal}
 use Rattle.entries.specs.declared.refusal.Refusal.TheVariants.{TooShort, BadVersion, TooMany, BadLength, BadKind}
 use Rattle.entries.specs.declared.refusal.Refusal.TheVariants.{BadRotor, BadOffset, BadEnd, ShortOutput}
@@ -51,11 +51,11 @@ number_tells r q e = sym (named_number r) ∙ ap named e ∙ named_number q
 
 -- ---- so do the number and the case of a choice
 
-choice_tells : (c d : Choice) → choice_told c ≡ choice_told d → cases_in c ≡ cases_in d → c ≡ d
-choice_tells (Is a) (Is b) n l = let same : a ≡ b = cc in ap Is same
-choice_tells (Refused r) (Refused q) n l = ap Refused (number_tells r q n)
-choice_tells (Is a) (Refused q) n l = absurd (eqb-false (refusal_number q) accepted (never_accepted q) (sym n))
-choice_tells (Refused r) (Is b) n l = absurd (eqb-false (refusal_number r) accepted (never_accepted r) n)
+choice_tells : (c d : Result Case Refusal) → choice_told c ≡ choice_told d → cases_in c ≡ cases_in d → c ≡ d
+choice_tells (Ok a) (Ok b) n l = let same : a ≡ b = cc in ap Ok same
+choice_tells (Err r) (Err q) n l = ap Err (number_tells r q n)
+choice_tells (Ok a) (Err q) n l = absurd (eqb-false (refusal_number q) accepted (never_accepted q) (sym n))
+choice_tells (Err r) (Ok b) n l = absurd (eqb-false (refusal_number r) accepted (never_accepted r) n)
 
 -- ---- the public functions
 
@@ -84,14 +84,14 @@ module _ (s : List ℕ) (i j kind rotor : ℕ) (case : Case) (r : Refusal) where
   pub body_size_determined : Determined (λ n. n ≡ body_size kind)
   body_size_determined = equal_determined
 
-  pub number_in_determined : Determined (λ x. x ≡ number_in s i j)
-  number_in_determined = equal_determined
+  pub float_determined : Determined (λ x. x ≡ number_in s i j)
+  float_determined = equal_determined
 
-  pub number_determined : Determined (λ n. n ≡ refusal_number r)
-  number_determined = equal_determined
+  pub from_determined : Determined (λ n. n ≡ refusal_number r)
+  from_determined = equal_determined
 
   pub choose_determined : Determined (ChosenBy kind rotor)
   choose_determined c d h k = choice_tells c d (h.told ∙ sym k.told) (h.cases ∙ sym k.cases)
 
-  pub read_command_determined : Determined (λ c. c ≡ command_with s i case)
-  read_command_determined = equal_determined
+  pub command_determined : Determined (λ c. c ≡ command_with s i case)
+  command_determined = equal_determined

@@ -1,13 +1,12 @@
 -- What the kind and the rotor byte of an entry choose, before any of its numbers is read: which of the five commands it
 -- is, or which of refusals 5 and 6 (document 01, 'The command sheet (ours)'). Definitions only; the quotations are
 -- document 01's.
-use Rattle.std.specs.Prelude.{◌≡◌, cond, not, ◌&&◌, List, [], ◌∷◌, ℕ, ltb, eqb}
+use Rattle.std.specs.Prelude.{◌≡◌, cond, not, ◌&&◌, List, [], ◌∷◌, ℕ, ltb, eqb, Result, Ok, Err}
 use Rattle.refusals.specs.Numbers.{accepted, bad_kind, bad_rotor}
 use Rattle.refusals.specs.Told.{given, first}
 use Rattle.entries.specs.declared.choice.Case.{Case}
 use Rattle.entries.specs.declared.choice.Case.TheVariants.{Plain, ThrustFloor, Priority, Airmode, RotorOut}
-use Rattle.entries.specs.declared.choice.Choice.{Choice}
-use Rattle.entries.specs.declared.choice.Choice.TheVariants.{Is, Refused}
+use Rattle.entries.specs.declared.refusal.Refusal.{Refusal}
 use Rattle.entries.specs.Refusal.{refusal_number}
 
 -- ---- the case
@@ -38,21 +37,21 @@ choice_number kind rotor =
 
 -- ---- the answer
 
--- the paper's number and the values for each case of `Choice`: the number 0 and the case of a command, or the refusal's
+-- the paper's number and the values for each case of a choice: the number 0 and the case of a command, or the refusal's
 -- number
-abbrev pub choice_told : Choice → ℕ
-choice_told (Is c) = accepted
-choice_told (Refused r) = refusal_number r
+abbrev pub choice_told : Result Case Refusal → ℕ
+choice_told (Ok c) = accepted
+choice_told (Err r) = refusal_number r
 
-abbrev pub cases_in : Choice → List Case
-cases_in (Is c) = c ∷ []
-cases_in (Refused r) = []
+abbrev pub cases_in : Result Case Refusal → List Case
+cases_in (Ok c) = c ∷ []
+cases_in (Err r) = []
 
 -- an answer of this number, and where it is 0 of this case
-pub record Chosen (number : ℕ) (is : Case) (c : Choice) : Type 0 where
+pub record Chosen (number : ℕ) (is : Case) (c : Result Case Refusal) : Type 0 where
   pub told : choice_told c ≡ number
   pub cases : cases_in c ≡ cond (eqb number accepted) (is ∷ []) []
 
 -- the choice of a kind and a rotor byte
-abbrev pub ChosenBy : ℕ → ℕ → Choice → Type 0
+abbrev pub ChosenBy : ℕ → ℕ → Result Case Refusal → Type 0
 ChosenBy kind rotor = Chosen (choice_number kind rotor) (case_of kind rotor)

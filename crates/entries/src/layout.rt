@@ -35,25 +35,8 @@ pub fn entry_at(i: u8) -> usize
     4 + 4 * (i as usize)
 }
 
-pub fn kind(sheet: &[u8], i: u8) -> u8
-    ensures { result ≡ kind_of sheet.now i }
-{
-    byte(sheet, entry_at(i))
-}
-
-pub fn rotor(sheet: &[u8], i: u8) -> u8
-    ensures { result ≡ rotor_of sheet.now i }
-{
-    byte(sheet, entry_at(i) + 1)
-}
-
-pub fn offset(sheet: &[u8], i: u8) -> u16
-    ensures { result ≡ offset_of sheet.now i }
-{
-    read_u16(sheet, entry_at(i) + 2)
-}
-
 // How many bytes the body of a kind has: four numbers, and a floor except for plain.
+#[tactic(auto, unfolding(crate::specs::Layout::body_size))]
 pub fn body_size(kind: u8) -> usize
     ensures { result ≡ body_size kind }
 {
@@ -63,9 +46,37 @@ pub fn body_size(kind: u8) -> usize
     }
 }
 
-// Number j of the body of entry i, which begins at its offset: thrust, roll, pitch, yaw and floor are 0 to 4.
-pub fn number_in(sheet: &[u8], i: u8, j: u8) -> f32
-    ensures { result ≡ number_in sheet.now i j }
-{
-    float_of(read_u32(sheet, offset(sheet, i) as usize + 4 * (j as usize)))
+// An entry of a sheet, by its number, which need not be under the count.
+#[derive(Clone, Copy)]
+pub struct Entry<'a> {
+    pub sheet: &'a [u8],
+    pub number: u8,
+}
+
+impl<'a> Entry<'a> {
+    pub fn kind(&self) -> u8
+        ensures { result ≡ kind_of self.now.sheet.now self.now.number }
+    {
+        byte(self.sheet, entry_at(self.number))
+    }
+
+    pub fn rotor(&self) -> u8
+        ensures { result ≡ rotor_of self.now.sheet.now self.now.number }
+    {
+        byte(self.sheet, entry_at(self.number) + 1)
+    }
+
+    pub fn offset(&self) -> u16
+        ensures { result ≡ offset_of self.now.sheet.now self.now.number }
+    {
+        read_u16(self.sheet, entry_at(self.number) + 2)
+    }
+
+    // Float j of the body, which begins at the offset: thrust, roll, pitch, yaw and floor are 0 to 4.
+    #[tactic(auto, unfolding(crate::specs::Layout::number_in))]
+    pub fn float(&self, j: u8) -> f32
+        ensures { result ≡ number_in self.now.sheet.now self.now.number j }
+    {
+        float_of(read_u32(self.sheet, self.offset() as usize + 4 * (j as usize)))
+    }
 }

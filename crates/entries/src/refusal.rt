@@ -3,7 +3,7 @@ ghost use Rattle.std.specs.Prelude.{◌≡◌};
 ghost use Rattle.entries.specs.Refusal.{refusal_number};
 
 // One case for each of document 01's numbers 1 to 9.
-#[derive(Clone, Copy)]
+#[derive(Debug, Clone, Copy, PartialEq, Eq)]
 pub enum Refusal {
     TooShort,
     BadVersion,
@@ -17,18 +17,20 @@ pub enum Refusal {
 }
 
 // Document 01's number.
-pub fn number(r: Refusal) -> u8
-    ensures { result ≡ refusal_number r }
-{
-    match r {
-        Refusal::TooShort => 1,
-        Refusal::BadVersion => 2,
-        Refusal::TooMany => 3,
-        Refusal::BadLength => 4,
-        Refusal::BadKind => 5,
-        Refusal::BadRotor => 6,
-        Refusal::BadOffset => 7,
-        Refusal::BadEnd => 8,
-        Refusal::ShortOutput => 9,
+impl From<Refusal> for u8 {
+    ghost from_gives = { λ r n. n ≡ refusal_number r };
+
+    fn from(r: Refusal) -> u8 {
+        match r {
+            Refusal::TooShort => 1,
+            Refusal::BadVersion => 2,
+            Refusal::TooMany => 3,
+            Refusal::BadLength => 4,
+            Refusal::BadKind => 5,
+            Refusal::BadRotor => 6,
+            Refusal::BadOffset => 7,
+            Refusal::BadEnd => 8,
+            Refusal::ShortOutput => 9,
+        }
     }
 }

@@ -1,13 +1,13 @@
 -- How structs and enums pass to C and back: as floats and numbers. (The quad's state passes as the struct that it is,
 -- and needs no definition.) Definitions only.
-use Rattle.std.specs.Prelude.{◌≡◌, List, ℕ, Float, Ok, Err}
+use Rattle.std.specs.Prelude.{◌≡◌, List, ℕ, Float, Result, Ok, Err}
 use Rattle.refusals.specs.Told.{Told}
 use Rattle.frame.specs.declared.MixerN.{MixerN}
 use Rattle.multi.specs.declared.Wrench.{Wrench}
 use Rattle.multi.specs.Wrench.{MixAnswer, mix_number, RowsMixed}
 use Rattle.multi_thrust_floor.specs.Floored.{FloorAnswer, floor_number, RowsFloored}
 use Rattle.quad.specs.declared.QuadMixer.{QuadMixer}
-use Rattle.sheet.specs.declared.Verdict.{Verdict}
+use Rattle.sheet.specs.declared.Refused.{Refused}
 use Rattle.sheet.specs.Table.{told_by}
 use Rattle.sheet_run.specs.Run.{Ran}
 
@@ -43,6 +43,6 @@ pub record FlooredAs (run : List Float) (w : Wrench) (floor : Float) (before : L
 -- `sheet_run::run`, whose verdict passes as its two numbers
 pub record RanAs (s : List ℕ) (before : QuadMixer) (out : List ℕ)
     (number i : ℕ) (after : QuadMixer) (written : List ℕ) : Type 0 where
-  pub verdict : Verdict
+  pub verdict : Result Unit Refused
   pub told_is : told number i ≡ told_by verdict
   pub ran : Ran s before out verdict after written

@@ -11,7 +11,7 @@ ghost use Rattle.entries.specs.Layout.{kind_of, answer_size};
 ghost use Rattle.text.specs.Digits.{decimal_of};
 ghost use Rattle.lines.specs.Lines.{word_at, line_of, lines_of, refused_line, text_size, Written, Put};
 
-use entries::layout::{ANSWER, count, kind};
+use entries::layout::{ANSWER, Entry, count};
 use wire::read_u32;
 
 // Room for 255 lines of 53 bytes, so that no count of a sheet is too much. An entry number and a kind are bytes, of
@@ -65,7 +65,7 @@ impl<'a> Page<'a> {
     {
         self.put_decimal(i);
         self.put(b" ");
-        self.put_decimal(kind(sheet, i));
+        self.put_decimal(Entry { sheet, number: i }.kind());
     }
 
     // The line of entry i: its head, the four motors and the scale.

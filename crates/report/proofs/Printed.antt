@@ -16,8 +16,9 @@ use Rattle.entries.specs.declared.refusal.Refusal.{Refusal}
 use Rattle.entries.specs.Layout.{count_of}
 use Rattle.entries.specs.Refusal.{refusal_number}
 use Rattle.entries.proofs.Chosen.{never_accepted}
-use Rattle.sheet.specs.declared.Verdict.{Verdict}
-use Rattle.sheet.specs.declared.Verdict.TheVariants.{Accepted, Refused}
+use Rattle.std.specs.declared.result.Result.{Result}
+use Rattle.std.specs.declared.result.Result.TheVariants.{Ok, Err}
+use Rattle.sheet.specs.declared.Refused.{Refused}
 use Rattle.sheet.specs.Table.{told_by}
 use Rattle.sheet_run.specs.Run.{commands_of, answers_of, judged_for, Ran}
 use Rattle.sheet_run.proofs.AnswerBytes.{answers_length}
@@ -56,16 +57,16 @@ module _ (out answers : List ℕ) (held : length answers ≤ length out) where
 
 -- ---- what is printed
 
-module _ {s out : List ℕ} {v : Verdict} {after : QuadMixer} {written : List ℕ} (run : Ran s fresh out v after written)
+module _ {s out : List ℕ} {v : Result Unit Refused} {after : QuadMixer} {written : List ℕ} (run : Ran s fresh out v after written)
     (size : length out ≡ room) where
   told : told_by v ≡ judged_for s room
   told = run.told ∙ ap (judged_for s) size
 
-  pub refused_printed : {r : Refusal} {i : ℕ} → v ≡ Refused r i → printed s ≡ refused_line (refusal_number r) i
+  pub refused_printed : {r : Refused} → v ≡ Err r → printed s ≡ refused_line (refusal_number r.why) r.entry
   unfolding printed
-  refused_printed {r} is = rw (← told, is, never_accepted r)
+  refused_printed {r} is = rw (← told, is, never_accepted r.why)
 
-  pub accepted_printed : v ≡ Accepted → printed s ≡ lines_of s written
+  pub accepted_printed : v ≡ Ok tt → printed s ≡ lines_of s written
   unfolding printed lines_of
   accepted_printed is =
       let all = answers_of fresh (commands_of s) in

@@ -5,10 +5,8 @@
 ghost use Rattle.lines.specs.Lines.{Written};
 ghost use Rattle.report.specs.Report.{printed};
 
-use entries::refusal::number;
 use lines::{TEXT, entry_lines, refused_line};
 use quad::QuadMixer;
-use sheet::Verdict;
 use sheet_run::run;
 
 // Room for the answers of 64 entries, the most that a sheet has, so that it is never refused for a short output.
@@ -20,10 +18,8 @@ pub fn text_of(sheet: &[u8], text: &mut [u8; TEXT]) -> usize
     ensures { Written (printed sheet.now) text.old text.new result }
 {
     let mut answers = [0u8; ANSWERS];
-    let outcome = run(sheet, QuadMixer::new(), &mut answers);
-    let verdict = outcome.verdict;
-    match verdict {
-        Verdict::Accepted => entry_lines(sheet, &answers, text),
-        Verdict::Refused(refusal, i) => refused_line(number(refusal), i, text),
+    match run(sheet, QuadMixer::new(), &mut answers) {
+        Ok(_) => entry_lines(sheet, &answers, text),
+        Err(refused) => refused_line(refused.why.into(), refused.entry, text),
     }
 }

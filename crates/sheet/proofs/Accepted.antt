@@ -1,5 +1,5 @@
 -- What an accepted sheet is known by: it has passed every line of the table. Assumes nothing.
-use mathlib.Core.Path.{◌≡◌, sym, ◌∙◌}
+use mathlib.Core.Path.{◌≡◌, refl, sym, ◌∙◌}
 use mathlib.Core.Bool.{not}
 use mathlib.Core.List.{List}
 use Prim.Native.Nat.{ℕ, zero, suc, ◌+◌, ◌≤◌, ◌<◌}
@@ -11,7 +11,10 @@ use Rattle.general.proofs.Neither.{neither}
 use Rattle.refusals.specs.Numbers.{accepted}
 use Rattle.refusals.proofs.First.{not_given, first_passed, entry_passed}
 use Rattle.entries.specs.Layout.{version_of, count_of, length_field, entry_at, kind_of, rotor_of, offset_of, body_at}
-use Rattle.entries.specs.declared.choice.Choice.TheVariants.{Refused}
+use Rattle.std.specs.Result.{IsOk}
+use Rattle.std.specs.declared.result.Result.{Result}
+use Rattle.std.specs.declared.result.Result.TheVariants.{Ok, Err}
+use Rattle.entries.specs.declared.choice.Case.{Case}
 use Rattle.entries.specs.declared.refusal.Refusal.{Refusal}
 use Rattle.entries.specs.Refusal.{refusal_number}
 use Rattle.entries.specs.Choice.{choice_number, ChosenBy}
@@ -83,7 +86,13 @@ is_accepted_lem s h =
 
 -- none of its entries is refused by its kind or its rotor byte
 pub never_refused : {s : List ℕ} {i : ℕ} {r : Refusal} → Accepted s → i < count_of s
-    → ChosenBy (kind_of s i) (rotor_of s i) (Refused r) → ⊥
+    → ChosenBy (kind_of s i) (rotor_of s i) (Err r) → ⊥
 never_refused {s} {i} {r} known under h =
     let number : refusal_number r ≡ accepted = sym (chosen_refusal h) ∙ (known.entries i under).chosen in
     eqb-false (refusal_number r) accepted (never_accepted r) number
+
+-- so each is a command
+pub is_command : {s : List ℕ} {i : ℕ} (r : Result Case Refusal) → Accepted s → i < count_of s
+    → ChosenBy (kind_of s i) (rotor_of s i) r → IsOk r
+is_command (Ok c) known under h = refl
+is_command (Err r) known under h = absurd (never_refused known under h)

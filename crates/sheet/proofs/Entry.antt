@@ -9,7 +9,7 @@ use Rattle.refusals.specs.Numbers.{accepted, bad_offset}
 use Rattle.refusals.specs.Told.{given, first, alone, at_entry}
 use Rattle.refusals.proofs.First.{not_given, first_passed, first_decides, next_decides, told_here}
 use Rattle.entries.specs.declared.choice.Case.{Case}
-use Rattle.entries.specs.declared.choice.Choice.TheVariants.{Is, Refused}
+use Rattle.std.specs.declared.result.Result.TheVariants.{Ok, Err}
 use Rattle.entries.specs.declared.refusal.Refusal.{Refusal}
 use Rattle.entries.specs.Layout.{kind_of, rotor_of, offset_of}
 use Rattle.entries.specs.Refusal.{refusal_number}
@@ -19,21 +19,21 @@ use Rattle.sheet.specs.Table.{entry_number, entry_told}
 
 module _ (s : List ℕ) (i end : ℕ) where
   -- a refusal by the kind or the rotor byte comes first
-  choice_first : {r : Refusal} → ChosenBy (kind_of s i) (rotor_of s i) (Refused r) → entry_number s i end
+  choice_first : {r : Refusal} → ChosenBy (kind_of s i) (rotor_of s i) (Err r) → entry_number s i end
       ≡ refusal_number r
   unfolding entry_number
   choice_first {r} h =
       first_decides (choice_number (kind_of s i) (rotor_of s i)) _ (rw (chosen_refusal h) (never_accepted r))
       ∙ chosen_refusal h
 
-  pub refused_before : {r : Refusal} → ChosenBy (kind_of s i) (rotor_of s i) (Refused r)
+  pub refused_before : {r : Refusal} → ChosenBy (kind_of s i) (rotor_of s i) (Err r)
       → entry_told s i end ≡ record { number = refusal_number r; of_entry = i }
   refused_before {r} h =
       ap (λ (n : ℕ). at_entry n i (alone accepted)) (choice_first h)
       ∙ told_here (refusal_number r) i (alone accepted) (never_accepted r)
 
   -- and else the offset decides
-  module _ {c : Case} (is : ChosenBy (kind_of s i) (rotor_of s i) (Is c)) where
+  module _ {c : Case} (is : ChosenBy (kind_of s i) (rotor_of s i) (Ok c)) where
     offset_next : entry_number s i end ≡ first (given (not (eqb (offset_of s i) end)) bad_offset ∷ [])
     unfolding entry_number
     offset_next = next_decides (choice_number (kind_of s i) (rotor_of s i)) _ (chosen_case is).0

@@ -1,13 +1,13 @@
 -- The refusal rule of a sheet, 1 to 8 (the table in document 01, 'The command sheet (ours)'): "given exactly when,
 -- first that applies". Definitions only; the quotations are document 01's.
-use Rattle.std.specs.Prelude.{not, ◌||◌, List, [], ◌∷◌, ℕ, zero, suc, ltb, eqb, length}
+use Rattle.std.specs.Prelude.{not, ◌||◌, List, [], ◌∷◌, ℕ, zero, suc, ltb, eqb, length, Result, Ok, Err}
 use Rattle.refusals.specs.Numbers.{accepted, too_short, bad_version, too_many, bad_length, bad_offset, bad_end}
 use Rattle.refusals.specs.Told.{given, first, Told, alone, at_entry}
 use Rattle.entries.specs.Layout.{version_of, count_of, length_field, entry_at, kind_of, rotor_of, offset_of, body_at}
+use Rattle.entries.specs.declared.refusal.Refusal.{Refusal}
 use Rattle.entries.specs.Refusal.{refusal_number}
 use Rattle.entries.specs.Choice.{choice_number}
-use Rattle.sheet.specs.declared.Verdict.{Verdict}
-use Rattle.sheet.specs.declared.Verdict.TheVariants.{Accepted, Refused}
+use Rattle.sheet.specs.declared.Refused.{Refused}
 
 -- "entry count k, 0..64"
 abbrev pub max_entries : ℕ
@@ -46,7 +46,11 @@ entries_told s i (suc left) = at_entry (entry_number s i (body_at s i)) i (entri
 unfoldable pub judged : List ℕ → Told
 judged s = at_entry (head_number s) 0 (entries_told s 0 (count_of s))
 
--- the paper's number and entry number for each case of `Verdict`
-abbrev pub told_by : Verdict → Told
-told_by Accepted = alone accepted
-told_by (Refused r i) = record { number = refusal_number r; of_entry = i }
+-- "other numbers come with 0": a refusal that is about no entry
+abbrev pub of_sheet : Refusal → Refused
+of_sheet why = record { why = why; entry = 0 }
+
+-- the paper's number and entry number for each answer
+abbrev pub told_by : Result Unit Refused → Told
+told_by (Ok tt) = alone accepted
+told_by (Err r) = record { number = refusal_number r.why; of_entry = r.entry }

@@ -53,11 +53,11 @@ float_written out xs x h =
 -- a mix gives four motors
 called_four : (q : QuadMixer) (c : Command) → length (called q c).last_motors ≡ 4
 unfolding called quad_rows
-called_four q (Plain t r p y) = plain_count quad_rows (r ∷ p ∷ y ∷ []) t
-called_four q (ThrustFloor t r p y floor) = thrust_floor_count quad_rows (r ∷ p ∷ y ∷ []) t floor
-called_four q (Priority t r p y floor) = priority_count quad_rows (r ∷ p ∷ y ∷ []) t floor
-called_four q (Airmode t r p y floor) = airmode_count quad_rows (r ∷ p ∷ y ∷ []) t floor
-called_four q (RotorOut failed t r p y floor) = rotor_out_count failed (r ∷ p ∷ y ∷ []) t floor
+called_four q (Plain d) = plain_count quad_rows d.torque d.thrust
+called_four q (ThrustFloor d floor) = thrust_floor_count quad_rows d.torque d.thrust floor
+called_four q (Priority d floor) = priority_count quad_rows d.torque d.thrust floor
+called_four q (Airmode d floor) = airmode_count quad_rows d.torque d.thrust floor
+called_four q (RotorOut failed d floor) = rotor_out_count failed d.torque d.thrust floor
 
 -- so an answer has 20 bytes
 pub answer_length : (q : QuadMixer) (c : Command) → length (answer_of (called q c)) ≡ 20

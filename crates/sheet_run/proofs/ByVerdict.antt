@@ -8,26 +8,27 @@ use Rattle.quad.specs.declared.QuadMixer.{QuadMixer}
 use Rattle.entries.specs.declared.refusal.Refusal.{Refusal}
 use Rattle.entries.specs.Layout.{count_of}
 use Rattle.entries.proofs.Chosen.{never_accepted}
-use Rattle.sheet.specs.declared.Verdict.{Verdict}
-use Rattle.sheet.specs.declared.Verdict.TheVariants.{Accepted, Refused}
+use Rattle.std.specs.declared.result.Result.{Result}
+use Rattle.std.specs.declared.result.Result.TheVariants.{Ok, Err}
+use Rattle.sheet.specs.declared.Refused.{Refused}
 use Rattle.sheet.specs.Table.{told_by}
 use Rattle.sheet.proofs.Verdicts.{accepted_number, refused_number}
 use Rattle.sheet_run.specs.Run.{commands_of, ran, answers_of, judged_for, Ran}
 use Rattle.sheet_run.proofs.Keeps.{each_keeps}
 
-module _ {s : List ℕ} {before : QuadMixer} {out : List ℕ} {v : Verdict}
+module _ {s : List ℕ} {before : QuadMixer} {out : List ℕ} {v : Result Unit Refused}
     (told : told_by v ≡ judged_for s (length out)) where
-  pub run_refused : {r : Refusal} {i : ℕ} → v ≡ Refused r i → Ran s before out v before out
+  pub run_refused : {r : Refused} → v ≡ Err r → Ran s before out v before out
   run_refused {r} is =
       let number = refused_number told is in
       record {
         told = told;
-        state = rw (number, never_accepted r);
-        output = rw (number, never_accepted r);
+        state = rw (number, never_accepted r.why);
+        output = rw (number, never_accepted r.why);
         keeps = λ e. each_keeps s before 0 (count_of s);
       }
 
-  pub run_accepted : {after : QuadMixer} {written : List ℕ} → v ≡ Accepted → after ≡ ran before (commands_of s)
+  pub run_accepted : {after : QuadMixer} {written : List ℕ} → v ≡ Ok tt → after ≡ ran before (commands_of s)
       → written ≡ write_at out 0 (answers_of before (commands_of s)) → Ran s before out v after written
   run_accepted is state output =
       let number = accepted_number told is in

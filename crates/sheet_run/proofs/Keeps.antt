@@ -16,6 +16,7 @@ use Rattle.entries.specs.declared.choice.Case.{Case}
 use Rattle.entries.specs.declared.choice.Case.TheVariants.{Plain as PlainCase, ThrustFloor as ThrustFloorCase}
 use Rattle.entries.specs.declared.choice.Case.TheVariants.{Priority as PriorityCase}
 use Rattle.entries.specs.declared.choice.Case.TheVariants.{Airmode as AirmodeCase, RotorOut as RotorOutCase}
+use Rattle.entries.specs.declared.command.Demand.{Demand}
 use Rattle.entries.specs.declared.command.Command.{Command}
 use Rattle.entries.specs.declared.command.Command.TheVariants.{Plain, ThrustFloor, Priority, Airmode, RotorOut}
 use Rattle.entries.specs.Layout.{kind_of, rotor_of, number_in}
@@ -30,11 +31,11 @@ Held x = T (fits binary32 x)
 
 -- the numbers of a command that its mix's promises need are f32s
 HeldIn : Command → Type 0
-HeldIn (Plain t r p y) = Held t × Held r × Held p × Held y
-HeldIn (ThrustFloor t r p y floor) = Held t × Held floor
-HeldIn (Priority t r p y floor) = Held t × Held floor
-HeldIn (Airmode t r p y floor) = Held t × Held floor
-HeldIn (RotorOut failed t r p y floor) = Held floor
+HeldIn (Plain d) = Held d.thrust × ((k : ℕ) → Held (get_or d.torque k nan))
+HeldIn (ThrustFloor d floor) = Held d.thrust × Held floor
+HeldIn (Priority d floor) = Held d.thrust × Held floor
+HeldIn (Airmode d floor) = Held d.thrust × Held floor
+HeldIn (RotorOut failed d floor) = Held floor
 
 three_held : (r p y : Float) → Held r → Held p → Held y → (k : ℕ) → Held (get_or (r ∷ p ∷ y ∷ []) k nan)
 three_held r p y hr hp hy zero = hr
@@ -44,16 +45,11 @@ three_held r p y hr hp hy (suc (suc (suc k))) = nan-fits binary32
 
 called_gives : (q : QuadMixer) (c : Command) → HeldIn c → Gives q c (called q c)
 unfolding called Gives HeldIn
-called_gives q (Plain t r p y) h =
-    mixed refl (plain_keeps (r ∷ p ∷ y ∷ []) t (three_held r p y h.1 h.2 h.3) h.0)
-called_gives q (ThrustFloor t r p y floor) h =
-    mixed refl (thrust_floor_keeps quad_rows (r ∷ p ∷ y ∷ []) t floor h.0 h.1)
-called_gives q (Priority t r p y floor) h =
-    mixed refl (priority_keeps quad_rows (r ∷ p ∷ y ∷ []) t floor h.0 h.1)
-called_gives q (Airmode t r p y floor) h =
-    mixed refl (airmode_keeps quad_rows (r ∷ p ∷ y ∷ []) t floor h.0 h.1)
-called_gives q (RotorOut failed t r p y floor) h =
-    mixed refl (rotor_out_keeps failed (r ∷ p ∷ y ∷ []) t floor h)
+called_gives q (Plain d) h = mixed refl (plain_keeps d.torque d.thrust h.1 h.0)
+called_gives q (ThrustFloor d floor) h = mixed refl (thrust_floor_keeps quad_rows d.torque d.thrust floor h.0 h.1)
+called_gives q (Priority d floor) h = mixed refl (priority_keeps quad_rows d.torque d.thrust floor h.0 h.1)
+called_gives q (Airmode d floor) h = mixed refl (airmode_keeps quad_rows d.torque d.thrust floor h.0 h.1)
+called_gives q (RotorOut failed d floor) h = mixed refl (rotor_out_keeps failed d.torque d.thrust floor h)
 
 -- ---- a sheet's commands
 
@@ -61,20 +57,20 @@ number_held : (s : List ℕ) (i j : ℕ) → Held (number_in s i j)
 unfolding number_in
 number_held s i j = of_bits-fits binary32 _
 
-of_held : (c : Case) (t r p y floor : Float) → Held t → Held r → Held p → Held y → Held floor
-    → HeldIn (command_of c t r p y floor)
+of_held : (c : Case) (d : Demand) (floor : Float) → Held d.thrust → ((k : ℕ) → Held (get_or d.torque k nan))
+    → Held floor → HeldIn (command_of c d floor)
 unfolding command_of HeldIn
-of_held PlainCase t r p y floor ht hr hp hy hf = (ht, hr, hp, hy)
-of_held ThrustFloorCase t r p y floor ht hr hp hy hf = (ht, hf)
-of_held PriorityCase t r p y floor ht hr hp hy hf = (ht, hf)
-of_held AirmodeCase t r p y floor ht hr hp hy hf = (ht, hf)
-of_held (RotorOutCase failed) t r p y floor ht hr hp hy hf = hf
+of_held PlainCase d floor ht hq hf = (ht, hq)
+of_held ThrustFloorCase d floor ht hq hf = (ht, hf)
+of_held PriorityCase d floor ht hq hf = (ht, hf)
+of_held AirmodeCase d floor ht hq hf = (ht, hf)
+of_held (RotorOutCase failed) d floor ht hq hf = hf
 
 command_held : (s : List ℕ) (i : ℕ) → HeldIn (command_at s i)
 unfolding command_at command_with
 command_held s i =
     let held = number_held s i in
-    of_held (case_of (kind_of s i) (rotor_of s i)) _ _ _ _ _ (held 0) (held 1) (held 2) (held 3) (held 4)
+    of_held (case_of (kind_of s i) (rotor_of s i)) _ _ (held 0) (three_held _ _ _ (held 1) (held 2) (held 3)) (held 4)
 
 -- ---- the run
 

@@ -11,11 +11,11 @@ use Rattle.sheet_run.specs.Run.{called, Gives, ran, answer_of, answers_of}
 -- what a method gives is the state of the rule
 pub gives_called : (q : QuadMixer) (c : Command) (r : QuadMixer) → Gives q c r → r ≡ called q c
 unfolding called Gives
-gives_called q (Plain t r p y) last m = m.is
-gives_called q (ThrustFloor t r p y floor) last m = m.is
-gives_called q (Priority t r p y floor) last m = m.is
-gives_called q (Airmode t r p y floor) last m = m.is
-gives_called q (RotorOut failed t r p y floor) last m = m.is
+gives_called q (Plain d) last m = m.is
+gives_called q (ThrustFloor d floor) last m = m.is
+gives_called q (Priority d floor) last m = m.is
+gives_called q (Airmode d floor) last m = m.is
+gives_called q (RotorOut failed d floor) last m = m.is
 
 -- calling the methods of commands in their order leads from a state to a last one, and these are the bytes of the
 -- states on the way

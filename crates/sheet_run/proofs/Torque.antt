@@ -12,18 +12,19 @@ use Rattle.quad.specs.State.{HoldsTorque}
 use Rattle.quad.proofs.Torque.{mixed_to_holds, reached_by_holds}
 use Rattle.entries.specs.declared.command.Command.{Command}
 use Rattle.entries.specs.declared.command.Command.TheVariants.{Plain, ThrustFloor, Priority, Airmode, RotorOut}
-use Rattle.sheet.specs.declared.Verdict.{Verdict}
+use Rattle.std.specs.declared.result.Result.{Result}
+use Rattle.sheet.specs.declared.Refused.{Refused}
 use Rattle.sheet_run.specs.Run.{called, commands_of, ran, judged_for, Ran}
 use Rattle.sheet_run.specs.Reached.{CalledTo, by_mix, by_run, Reached}
 
 -- after the call of any command, whatever the state before was
 called_holds : (q : QuadMixer) (c : Command) → HoldsTorque (called q c)
 unfolding called
-called_holds q (Plain t r p y) = refl
-called_holds q (ThrustFloor t r p y floor) = refl
-called_holds q (Priority t r p y floor) = refl
-called_holds q (Airmode t r p y floor) = refl
-called_holds q (RotorOut failed t r p y floor) = refl
+called_holds q (Plain d) = refl
+called_holds q (ThrustFloor d floor) = refl
+called_holds q (Priority d floor) = refl
+called_holds q (Airmode d floor) = refl
+called_holds q (RotorOut failed d floor) = refl
 
 ran_holds : (q : QuadMixer) (cs : List Command) → HoldsTorque q → HoldsTorque (ran q cs)
 unfolding ran
@@ -35,7 +36,7 @@ either_holds true q r hq hr = hq
 either_holds false q r hq hr = hr
 
 -- accepted, the state is that after the commands; refused, the one before
-pub run_holds : {s out : List ℕ} {verdict : Verdict} {before after : QuadMixer} {written : List ℕ}
+pub run_holds : {s out : List ℕ} {verdict : Result Unit Refused} {before after : QuadMixer} {written : List ℕ}
     → HoldsTorque before → Ran s before out verdict after written → HoldsTorque after
 run_holds {s} {out} {before} h run =
     let is_accepted_lem = eqb (judged_for s (length out)).number accepted in

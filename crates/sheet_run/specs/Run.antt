@@ -1,6 +1,6 @@
 -- Running a sheet (document 01, 'The command sheet (ours)': "An accepted sheet is run from a [...] state as the same
 -- calls one after another"). Definitions only; the quotations are document 01's.
-use Rattle.std.specs.Prelude.{◌≡◌, cond, List, [], ◌∷◌, ◌++◌, ℕ, zero, suc, ◌*◌, ltb, eqb, length, Float}
+use Rattle.std.specs.Prelude.{◌≡◌, cond, List, [], ◌∷◌, ◌++◌, ℕ, zero, suc, ◌*◌, ltb, eqb, length, Float, Result, Ok, Err}
 use Rattle.std.specs.Float.{binary32}
 use Rattle.std.specs.Float.Ieee.{to_bits}
 use Rattle.wire.specs.Bytes.{bytes_of, write_at}
@@ -13,26 +13,26 @@ use Rattle.entries.specs.declared.command.Command.{Command}
 use Rattle.entries.specs.declared.command.Command.TheVariants.{Plain, ThrustFloor, Priority, Airmode, RotorOut}
 use Rattle.entries.specs.Layout.{count_of, answer_size}
 use Rattle.entries.specs.Entry.{command_at}
-use Rattle.sheet.specs.declared.Verdict.{Verdict}
+use Rattle.sheet.specs.declared.Refused.{Refused}
 use Rattle.sheet.specs.Table.{judged, told_by}
 
 -- ---- one command
 
 -- the state after the call of a command's mix
 unfoldable pub called : QuadMixer → Command → QuadMixer
-called q (Plain t r p y) = after_plain q (r ∷ p ∷ y ∷ []) t
-called q (ThrustFloor t r p y floor) = after_thrust_floor q (r ∷ p ∷ y ∷ []) t floor
-called q (Priority t r p y floor) = after_priority q (r ∷ p ∷ y ∷ []) t floor
-called q (Airmode t r p y floor) = after_airmode q (r ∷ p ∷ y ∷ []) t floor
-called q (RotorOut failed t r p y floor) = after_rotor_out q failed (r ∷ p ∷ y ∷ []) t floor
+called q (Plain d) = after_plain q d.torque d.thrust
+called q (ThrustFloor d floor) = after_thrust_floor q d.torque d.thrust floor
+called q (Priority d floor) = after_priority q d.torque d.thrust floor
+called q (Airmode d floor) = after_airmode q d.torque d.thrust floor
+called q (RotorOut failed d floor) = after_rotor_out q failed d.torque d.thrust floor
 
 -- what the mix gives: that state, and its promises of it
 unfoldable pub Gives : QuadMixer → Command → QuadMixer → Type 0
-Gives q (Plain t r p y) = PlainGives q (r ∷ p ∷ y ∷ []) t
-Gives q (ThrustFloor t r p y floor) = ThrustFloorGives q (r ∷ p ∷ y ∷ []) t floor
-Gives q (Priority t r p y floor) = PriorityGives q (r ∷ p ∷ y ∷ []) t floor
-Gives q (Airmode t r p y floor) = AirmodeGives q (r ∷ p ∷ y ∷ []) t floor
-Gives q (RotorOut failed t r p y floor) = RotorOutGives q failed (r ∷ p ∷ y ∷ []) t floor
+Gives q (Plain d) = PlainGives q d.torque d.thrust
+Gives q (ThrustFloor d floor) = ThrustFloorGives q d.torque d.thrust floor
+Gives q (Priority d floor) = PriorityGives q d.torque d.thrust floor
+Gives q (Airmode d floor) = AirmodeGives q d.torque d.thrust floor
+Gives q (RotorOut failed d floor) = RotorOutGives q failed d.torque d.thrust floor
 
 -- ---- the commands, one after another
 
@@ -80,9 +80,19 @@ judged_for s room =
 -- the commands, each answer stands at its place, and "Bytes past 20k stay". Of an accepted sheet each call whose answer
 -- is written keeps what its mix promises.
 pub record Ran (s : List ℕ) (before : QuadMixer) (out : List ℕ)
-    (verdict : Verdict) (after : QuadMixer) (written : List ℕ) : Type 0 where
+    (verdict : Result Unit Refused) (after : QuadMixer) (written : List ℕ) : Type 0 where
   pub told : told_by verdict ≡ judged_for s (length out)
   pub state : after ≡ cond (eqb (judged_for s (length out)).number accepted) (ran before (commands_of s)) before
   pub output : written
       ≡ cond (eqb (judged_for s (length out)).number accepted) (write_at out 0 (answers_of before (commands_of s))) out
   pub keeps : (judged_for s (length out)).number ≡ accepted → EachKeeps before (commands_of s)
+
+-- what the answer of a run says: what the sheet is told, and the state afterwards, which where it is refused is the one
+-- before, since then none comes back
+abbrev pub verdict_of : Result QuadMixer Refused → Result Unit Refused
+verdict_of (Ok after) = Ok tt
+verdict_of (Err r) = Err r
+
+abbrev pub state_after : QuadMixer → Result QuadMixer Refused → QuadMixer
+state_after before (Ok after) = after
+state_after before (Err r) = before

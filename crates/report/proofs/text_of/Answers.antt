@@ -3,12 +3,12 @@ use mathlib.Core.Path.{refl}
 use Rattle.report.proofs.Printed.{refused_printed, accepted_printed}
 use Rattle.report.proofs.text_of.Goals as goal
 
-pub returns-in-Accepted : goal.returns-in-Accepted
-returns-in-Accepted c =
-    let ran = rw c.new.ensures at c.run-outcome.ensures in
-    rw (accepted_printed ran refl c.in-Accepted.is) c.entry_lines.ensures
+pub returns-in-Ok : goal.returns-in-Ok
+returns-in-Ok c =
+    let ran = rw c.new.ensures at c.in-Ok.ensures in
+    rw (accepted_printed ran refl refl) c.entry_lines.ensures
 
-pub returns-in-Refused : goal.returns-in-Refused
-returns-in-Refused c =
-    let ran = rw c.new.ensures at c.run-outcome.ensures in
-    rw (refused_printed ran refl c.in-Refused.is, ← c.number.ensures) c.refused_line.ensures
+pub returns-in-Err : goal.returns-in-Err
+returns-in-Err c =
+    let ran = rw c.new.ensures at c.in-Err.ensures in
+    rw (refused_printed ran refl refl, ← c.into.ensures) c.refused_line.ensures

@@ -1,5 +1,5 @@
--- `sheet::check_entries` meets its contract. The invariant: `end` is where the body of entry i has to begin, and what
--- is told of the entries from i on is what is told of all. Assumes nothing.
+-- `sheet::check_entries` meets its contract. The invariant: `end` is where the body of the entry has to begin, and what
+-- is told of the entries from it on is what is told of all. Assumes nothing.
 use mathlib.Core.Path.{◌≡◌, sym, ap, ap₂, ◌∙◌}
 use Prim.Native.Nat.{◌+◌, ◌≤◌}
 use native.Mathlib.Omega.{arith}
@@ -12,53 +12,59 @@ use Rattle.sheet.proofs.Walk.{body_first, body_next, body_most, size_most, told_
 use Rattle.sheet.proofs.Walk.{told_refused, told_end, end_refused, end_accepted}
 use Rattle.sheet.proofs.check_entries.Goals as goal
 
-pub loop-i-init : goal.loop-i-init
-loop-i-init c =
+pub loop-number-init : goal.loop-number-init
+loop-number-init c =
     let counted = c.count-k.ensures in
-    (omega arith, simp (c.entry_at-end.ensures, counted, body_first), rw counted (ap (entries_told _ 0) (omega arith)))
+    record {
+      ends = simp (c.entry_at-end.ensures, counted, body_first);
+      told = rw counted (ap (entries_told _ 0) (omega arith));
+    }
 
 pub returns-in_default : goal.returns-in_default
 returns-in_default c =
-    let inv = c.loop-i.invariant in
+    let inv = c.loop-number.invariant in
     rw c.in_default.is
-    (sym (told_refused _ c.loop-i.i _ c.loop-i-test.true
-    (sym (rw (c.in_default.is, inv.1) at c.check_entry-v.ensures)) (never_accepted c.in_default.field-0)) ∙ inv.2)
+    (sym (told_refused _ c.loop-number.number _ c.loop-number-test.true
+    (sym (rw (c.in_default.is, inv.ends) at c.check_entry-checked.ensures)) (never_accepted c.in_default.field-0.why))
+    ∙ inv.told)
 
 pub overflow_add-end : goal.overflow_add-end
 overflow_add-end c =
     let s = c.args.sheet.now in
     let size : c.body_size-end.result ≤ 20 = rw c.body_size-end.ensures (size_most _) in
-    omega (arith, c.loop-i.invariant.1, body_most s c.loop-i.i, c.count-k.ensures)
+    omega (arith, c.loop-number.invariant.ends, body_most s c.loop-number.number, c.count-k.ensures)
 
-pub loop-i-preserved : goal.loop-i-preserved
-loop-i-preserved c =
-    let inv = c.loop-i.invariant in
+pub loop-number-preserved : goal.loop-number-preserved
+loop-number-preserved c =
+    let inv = c.loop-number.invariant in
     let s = c.args.sheet.now in
-    let i = c.loop-i.i in (
-      omega arith,
-      ap₂ ◌+◌ inv.1 (c.body_size-end.ensures ∙ ap body_size c.kind.ensures) ∙ sym (body_next s i),
-      sym (told_passed s i _ c.loop-i-test.true
-          (accepted_number (rw inv.1 at c.check_entry-v.ensures) c.in-Accepted.is)) ∙ inv.2,
-    )
+    let i = c.loop-number.number in
+    record {
+      ends = ap₂ ◌+◌ inv.ends (c.body_size-end.ensures ∙ ap body_size c.kind.ensures) ∙ sym (body_next s i);
+      told =
+          sym (told_passed s i _ c.loop-number-test.true
+          (accepted_number (rw inv.ends at c.check_entry-checked.ensures) c.in-Ok.is))
+          ∙ inv.told;
+    }
 
 pub returns-then-end-sheet : goal.returns-then-end-sheet
 returns-then-end-sheet c =
     let s = c.args.sheet.now in
     let k = c.count-k in
-    let last : c.loop-i.i ≡ count_of s = omega (arith, k.ensures) in
+    let last : c.loop-number.number ≡ count_of s = omega (arith, k.ensures) in
     rw (
-      ← c.loop-i.invariant.2,
+      ← c.loop-number.invariant.told,
       k.ensures,
       last,
       told_end,
-      end_accepted s (rw (c.loop-i.invariant.1, last) at c.if-end-sheet.true),
+      end_accepted s (rw (c.loop-number.invariant.ends, last) at c.if-end-sheet.true),
     )
 
 pub returns : goal.returns
 returns c =
     let s = c.args.sheet.now in
     let k = c.count-k in
-    let last : c.loop-i.i ≡ count_of s = omega (arith, k.ensures) in
+    let last : c.loop-number.number ≡ count_of s = omega (arith, k.ensures) in
     let differs : (body_at s (count_of s) ≡ length s → ⊥) =
-    λ e. c.if-end-sheet.false (rw (c.loop-i.invariant.1, last) e) in
-    rw (← c.loop-i.invariant.2, k.ensures, last, told_end, end_refused s differs)
+    λ e. c.if-end-sheet.false (rw (c.loop-number.invariant.ends, last) e) in
+    rw (c.into.ensures, ← c.loop-number.invariant.told, k.ensures, last, told_end, end_refused s differs)

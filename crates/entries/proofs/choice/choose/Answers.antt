@@ -1,34 +1,53 @@
 -- `entries::choice::choose` meets its contract: in each arm the kind and the rotor byte are known well enough for the
 -- tests to compute. Assumes nothing.
-use mathlib.Core.Path.{sym, subst}
-use Prim.Native.Nat.{ℕ}
+use mathlib.Core.Path.{refl}
 use native.Mathlib.Omega.{arith}
 use borrow.Author.Tests.{lt-ltb, le-ltb}
 use Rattle.entries.specs.declared.refusal.Refusal.TheVariants.{BadKind, BadRotor}
-use Rattle.entries.specs.Choice.{failed_of, case_of, ChosenBy}
+use Rattle.entries.specs.Choice.{failed_of, case_of}
 use Rattle.entries.proofs.Chosen.{case_chosen, refusal_chosen}
-use Rattle.entries.proofs.Numbers.{kind_refused, rotor_refused, none_refused}
+use Rattle.entries.proofs.Numbers.{kind_refused, rotor_refused, none_refused, rotor_passed}
 use Rattle.entries.proofs.choice.choose.Goals as goal
 
-pub returns-in-0-to-3-rotor : goal.returns-in-0-to-3-rotor
+pub returns-in-0-eq0 : goal.returns-in-0-eq0
+unfolding case_of
+returns-in-0-eq0 c = rw (c.in-0-eq0.is-0, c.in-0-eq0.is-1) (case_chosen (rotor_passed _ (omega arith)) refl)
+
+pub returns-in-1-eq0 : goal.returns-in-1-eq0
+unfolding case_of
+returns-in-1-eq0 c = rw (c.in-1-eq0.is-0, c.in-1-eq0.is-1) (case_chosen (rotor_passed _ (omega arith)) refl)
+
+pub returns-in-2-eq0 : goal.returns-in-2-eq0
+unfolding case_of
+returns-in-2-eq0 c = rw (c.in-2-eq0.is-0, c.in-2-eq0.is-1) (case_chosen (rotor_passed _ (omega arith)) refl)
+
+pub returns-in-3-eq0 : goal.returns-in-3-eq0
+unfolding case_of
+returns-in-3-eq0 c = rw (c.in-3-eq0.is-0, c.in-3-eq0.is-1) (case_chosen (rotor_passed _ (omega arith)) refl)
+
+-- this arm once for each of the kinds 0 to 3
+pub returns-in-0-to-3-1-to-255 : goal.returns-in-0-to-3-1-to-255
+returns-in-0-to-3-1-to-255 c = refusal_chosen BadRotor (rotor_refused c.args.kind _ (omega arith) (omega arith))
+
+pub returns-in-0-to-3-1-to-255-2 : goal.returns-in-0-to-3-1-to-255-2
+returns-in-0-to-3-1-to-255-2 c = refusal_chosen BadRotor (rotor_refused c.args.kind _ (omega arith) (omega arith))
+
+pub returns-in-0-to-3-1-to-255-3 : goal.returns-in-0-to-3-1-to-255-3
+returns-in-0-to-3-1-to-255-3 c = refusal_chosen BadRotor (rotor_refused c.args.kind _ (omega arith) (omega arith))
+
+pub returns-in-0-to-3-1-to-255-4 : goal.returns-in-0-to-3-1-to-255-4
+returns-in-0-to-3-1-to-255-4 c = refusal_chosen BadRotor (rotor_refused c.args.kind _ (omega arith) (omega arith))
+
+pub returns-in-4-0-to-3 : goal.returns-in-4-0-to-3
 unfolding case_of failed_of
-returns-in-0-to-3-rotor c = rw c.in-4.is (case_chosen (none_refused _) (rw (lt-ltb c.args.rotor 4 (omega arith))))
+returns-in-4-0-to-3 c =
+    rw c.in-4-0-to-3.is-0 (case_chosen (none_refused _) (rw (lt-ltb c.args.rotor 4 (omega arith))))
 
-pub returns-in-4-to-255 : goal.returns-in-4-to-255
+pub returns-in-4-4-to-255 : goal.returns-in-4-4-to-255
 unfolding case_of failed_of
-returns-in-4-to-255 c = rw c.in-4.is (case_chosen (none_refused _) (rw (le-ltb c.args.rotor 4 (omega arith))))
+returns-in-4-4-to-255 c =
+    rw c.in-4-4-to-255.is-0 (case_chosen (none_refused _) (rw (le-ltb c.args.rotor 4 (omega arith))))
 
-pub returns-in-0 : goal.returns-in-0
-returns-in-0 c =
-    let kind = c.args.kind in
-    subst (λ (rotor : ℕ). ChosenBy kind rotor c.unlost.result) (sym c.in-0.is) c.unlost.ensures
-
-pub returns-in-1-to-255 : goal.returns-in-1-to-255
-returns-in-1-to-255 c =
-    let a = c.args in
-    refusal_chosen BadRotor (rotor_refused a.kind a.rotor (omega arith) (omega arith))
-
-pub returns-in-5-to-255 : goal.returns-in-5-to-255
-returns-in-5-to-255 c =
-    let a = c.args in
-    refusal_chosen BadKind (kind_refused a.kind a.rotor (omega arith))
+pub returns-in-5-to-255-default : goal.returns-in-5-to-255-default
+returns-in-5-to-255-default c =
+    refusal_chosen BadKind (kind_refused c.args.kind _ (omega arith))

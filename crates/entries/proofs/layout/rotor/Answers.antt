@@ -1,5 +1,0 @@
--- `entries::layout::rotor` meets its contract. Assumes nothing.
-use Rattle.entries.proofs.layout.rotor.Goals as goal
-
-pub returns : goal.returns
-returns c = simp (c.byte.ensures, c.entry_at.ensures)
