@@ -1,125 +1,101 @@
-// The walk over the list, record by record.
-ghost use Rattle.std.specs.Prelude.{◌≤◌, ◌<◌};
+// A record of the list, and how our answer to it differs.
+ghost use Rattle.std.specs.Prelude.{◌<◌, ◌≤◌};
 
-use crate::answers::{ANSWERS, INPUTS, answer};
-use crate::show::print_difference;
+use crate::answers::{INPUTS, Words, answer};
 use bits::float_of;
+use lists::Answers;
 use quad::QuadMixer;
+use std::{array, fmt};
 use wire::read_u32;
 use words::same;
 
-// How many bytes there is room for: more than a list has.
-pub(crate) const ROOM: usize = 1048576;
-
-// How many of the differences are shown.
-const SHOWN: usize = 4;
-
-// How many records were compared, and how many differences there are.
+// A record's head: 0xKKAA_IIII.
 #[derive(Clone, Copy)]
-pub(crate) struct Tally {
-    pub(crate) compared: usize,
-    pub(crate) differ: usize,
-}
+pub(crate) struct Head(u32);
 
-// Replays a list, from a new state of the quad on. What is left after the last whole record is one difference, whatever
-// it is.
-pub(crate) fn replay(list: &[u8]) -> Tally {
-    let mut compared = 0;
-    let mut differ = 0;
-    let mut at = 4;
-    let mut state = QuadMixer::new();
-    while at < list.len() {
-        let size = size_of(read_u32(list, at));
-        if list.len() - at < size {
-            break;
-        }
-        let end = at + size;
-        let seen = compare(compared, &list[at..end], state, differ < SHOWN);
-        if !seen.agrees {
-            differ += 1;
-        }
-        state = seen.state;
-        compared += 1;
-        at = end;
+impl Head {
+    // How many words the inputs take.
+    fn inputs(self) -> usize
+        ensures { result < 65536 }
+    {
+        (self.0 % 65536) as usize
     }
-    if !is_whole(list, at, compared) {
-        differ += 1;
+
+    // How many words the answers take.
+    fn answers(self) -> usize
+        ensures { result < 256 }
+    {
+        (self.0 / 65536 % 256) as usize
     }
-    Tally { compared, differ }
 }
 
-// Whether the records end where the list does, and are as many as it says. A list that fills the room may have more to
-// come.
-fn is_whole(list: &[u8], at: usize, compared: usize) -> bool {
-    at == list.len() && at < ROOM && compared == read_u32(list, 0) as usize
-}
-
-// ---- a record
-
-// Where its answers begin.
-fn answers_at(head: u32) -> usize
-    ensures { (4 ≤ result) × (result < 1048576) }
-{
-    4 + 4 * ((head % 65536) as usize)
-}
-
-// How many bytes it has.
-fn size_of(head: u32) -> usize
-    ensures { (4 ≤ result) × (result < 2097152) }
-{
-    answers_at(head) + 4 * ((head / 65536 % 256) as usize)
-}
-
-// Whether our answer is the Rust's, and the quad's state after the record.
+// Our answers, and the quad's state that they go on from: a new one at the start, and then as the last record left it.
 #[derive(Clone, Copy)]
-struct Seen {
-    agrees: bool,
+pub(crate) struct Replay {
     state: QuadMixer,
 }
 
-// Works through a record, from the state that the one before it left. Where the two answers differ, prints both if they
-// are to be shown.
-fn compare(number: usize, record: &[u8], state: QuadMixer, is_shown: bool) -> Seen {
-    let head = read_u32(record, 0);
-    let ours = answer(head, &inputs(record), state);
-    let words = ours.words;
-    let after = ours.state;
-    let told = words_from(record, answers_at(head));
-    if ours.known && same(&words, &told) {
-        return Seen {
-            agrees: true,
-            state: after,
-        };
-    }
-    if is_shown {
-        print_difference(number, head, ours, &told);
-    }
-    Seen {
-        agrees: false,
-        state: after,
+impl Replay {
+    pub(crate) fn new() -> Self {
+        Replay {
+            state: QuadMixer::new(),
+        }
     }
 }
 
-// The words after the head, as floats. No kind looks past its own inputs.
-fn inputs(record: &[u8]) -> [f32; INPUTS] {
-    let mut x = [0.0; INPUTS];
-    let mut i = 0;
-    while i < INPUTS && 4 + 4 * i < record.len() {
-        x[i] = float_of(read_u32(record, 4 + 4 * i));
-        i += 1;
-    }
-    x
+// How a record differs: no kind has its head, or our answer is not the Rust's.
+#[derive(Clone, Copy)]
+pub(crate) enum Difference {
+    NoSuchKind(Head),
+    Answer {
+        head: Head,
+        ours: Words,
+        rust: Words,
+    },
 }
 
-// The words from a place on. Past the record's end they are 0, as ours are after the last.
-fn words_from(record: &[u8], from: usize) -> [u32; ANSWERS]
-    requires { from < 1048576 }
-{
-    let mut words = [0; ANSWERS];
-    let mut i = 0;
-    while i < ANSWERS && from + 4 * i < record.len() {
-        words[i] = read_u32(record, from + 4 * i);
-        i += 1;
+impl fmt::Display for Difference {
+    fn fmt<W: fmt::Write>(&self, f: &mut fmt::Formatter<W>) -> fmt::Result {
+        match self {
+            Difference::NoSuchKind(Head(head)) => write!(f, ", head {head:08x}: no such kind"),
+            Difference::Answer { head, ours, rust } => {
+                write!(f, ", head {:08x}: ours", head.0)?;
+                show(f, head.answers(), ours)?;
+                write!(f, ", Rust")?;
+                show(f, head.answers(), rust)
+            }
+        }
     }
-    words
+}
+
+// The first of the words, as many as the count says.
+fn show<W: fmt::Write>(f: &mut fmt::Formatter<W>, count: usize, words: &Words) -> fmt::Result {
+    for word in words.iter().take(count) {
+        write!(f, " {word:08x}")?;
+    }
+    Ok(())
+}
+
+impl Answers for Replay {
+    type Difference = Difference;
+
+    const SHOWN: usize = 4;
+
+    fn size_of(list: &[u8]) -> usize {
+        let head = Head(read_u32(list, 0));
+        4 + 4 * (head.inputs() + head.answers())
+    }
+
+    // No kind looks past its own inputs. Past a record's end its words are 0, as ours are after the last.
+    fn compare(&mut self, record: &[u8]) -> Result<(), Difference> {
+        let word = |i: usize| read_u32(record, 4 * i);
+        let head = Head(word(0));
+        let x: [f32; INPUTS] = array::from_fn(|i| float_of(word(1 + i)));
+        let rust: Words = array::from_fn(|i| word(1 + head.inputs() + i));
+        match answer(head.0, &x, &mut self.state) {
+            None => Err(Difference::NoSuchKind(head)),
+            Some(ours) if same(&ours, &rust) => Ok(()),
+            Some(ours) => Err(Difference::Answer { head, ours, rust }),
+        }
+    }
 }

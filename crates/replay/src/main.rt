@@ -42,15 +42,17 @@ mod floors;
 mod frames;
 mod list;
 mod mixes;
-mod show;
 
-use list::ROOM;
+use list::Replay;
+use lists::{Tally, compare_list};
+use std::fmt::Write;
+use streams::{Stdout, read};
 
-// The number of standard input.
-const STDIN_FILENO: i32 = 0;
+// How many bytes there is room for: more than a list has.
+const ROOM: usize = 1048576;
 
 fn main() {
-    let mut space = [0; ROOM];
-    let n = io::read_full(STDIN_FILENO, &mut space);
-    show::print_tally(list::replay(&space[..n]));
+    let mut room = [0; ROOM];
+    let Tally { compared, differ } = compare_list(read(&mut room), ROOM, Replay::new());
+    let _ = writeln!(Stdout, "{compared} answers compared, {differ} differ");
 }

@@ -15,8 +15,8 @@ const STDIN_FILENO: i32 = 0;
 pub const STDOUT_FILENO: i32 = 1;
 
 // Reads until the room is full, the input ends or a read fails, and hands back what was read, the room's first part.
-pub fn read(room: &mut [u8]) -> &[u8]
-    ensures { length result.now ≤ length room.old }
+pub fn read<const ROOM: usize>(room: &mut [u8; ROOM]) -> &[u8]
+    ensures { length result.now ≤ ROOM }
 {
     let count = io::read_full(STDIN_FILENO, room);
     &room[..count]

@@ -1,1 +1,0 @@
--- `replay::show::print_words` is safe and ends: the loop counts the words. Assumes nothing.
