@@ -8,19 +8,17 @@
 #![tactic(auto)]
 
 mod record;
-mod walk;
 
-use walk::{ROOM, STDOUT_FILENO, replay};
+use lists::{Tally, compare_list};
+use record::Sheets;
+use std::fmt::Write;
+use streams::{Stdout, read};
 
-// The number of standard input.
-const STDIN_FILENO: i32 = 0;
+// How many bytes there is room for: more than the list has.
+const ROOM: usize = 393216;
 
 fn main() {
-    let mut list = [0u8; ROOM];
-    let n = io::read_full(STDIN_FILENO, &mut list);
-    let tally = replay(&list[..n]);
-    io::print_decimal(STDOUT_FILENO, tally.replayed as u64);
-    io::write_all(STDOUT_FILENO, b" sheets replayed, ");
-    io::print_decimal(STDOUT_FILENO, tally.differ as u64);
-    io::write_all(STDOUT_FILENO, b" differ\n");
+    let mut room = [0; ROOM];
+    let Tally { compared, differ } = compare_list(read(&mut room), ROOM, Sheets);
+    let _ = writeln!(Stdout, "{compared} sheets replayed, {differ} differ");
 }

@@ -6,10 +6,12 @@ use bits::{bits_of, float_of};
 use bodies::body;
 use entries::refusal::number;
 use lines::TEXT;
+use lists::Answers;
 use quad::QuadMixer;
 use report::text_of;
 use sheet::Verdict;
 use sheet_run::run;
+use std::{array, fmt};
 use wire::read_u32;
 
 // The places of the words.
@@ -38,147 +40,139 @@ const HEAD: usize = 96;
 // Room for an output: more than any of the list has.
 const MOST: usize = 2048;
 
-// A word of a record as a length or a place.
-fn word(record: &[u8], at: usize) -> usize
-    ensures { result < 4294967296 }
-{
-    read_u32(record, at) as usize
-}
-
-// How many bytes a record has, by its words.
-pub(crate) fn size_of(record: &[u8]) -> usize
-    ensures { (96 ≤ result) × (result < 17179869184) }
-{
-    HEAD + word(record, SHEET) + word(record, OUTPUT) + word(record, PRINTED)
-}
-
 // The part of so many bytes from a place on; an empty part where there are not so many.
-pub(crate) fn part(s: &[u8], at: usize, size: usize) -> &[u8] {
-    if s.len() < at {
-        return &s[..0];
+fn part(s: &[u8], at: usize, size: usize) -> &[u8] {
+    let rest = s.get(at..).unwrap_or(&[]);
+    rest.get(..size).unwrap_or(&[])
+}
+
+// A record's bytes.
+#[derive(Clone, Copy)]
+struct Record<'a>(&'a [u8]);
+
+impl<'a> Record<'a> {
+    // A word as a length or a place.
+    fn word(self, at: usize) -> usize
+        ensures { result < 4294967296 }
+    {
+        read_u32(self.0, at) as usize
     }
-    if s.len() - at < size {
-        return &s[..0];
+
+    // How many bytes it has, by its words.
+    fn size(self) -> usize
+        ensures { (96 ≤ result) × (result < 17179869184) }
+    {
+        HEAD + self.word(SHEET) + self.word(OUTPUT) + self.word(PRINTED)
     }
-    let end = at + size;
-    &s[at..end]
-}
 
-// Whether our answers are those of the record.
-pub(crate) fn agrees(record: &[u8]) -> bool {
-    let sheet = part(record, HEAD, word(record, SHEET));
-    let output_at = HEAD + word(record, SHEET);
-    let output = part(record, output_at, word(record, OUTPUT));
-    let text_at = output_at + word(record, OUTPUT);
-    let text = part(record, text_at, word(record, PRINTED));
-    run_agrees(record, sheet, output) && body_agrees(record, sheet) && text_agrees(sheet, text)
-}
-
-// ---- the run
-
-// Whether a run from the record's state gives its number, entry number, state and output. Before it, byte j of the
-// output is j modulo 251.
-fn run_agrees(record: &[u8], sheet: &[u8], output: &[u8]) -> bool {
-    let mut room = [0u8; MOST];
-    fill(&mut room);
-    run_in(&mut room, record, sheet, output)
-}
-
-// An output that is longer than the room counts as a difference.
-fn run_in(room: &mut [u8], record: &[u8], sheet: &[u8], output: &[u8]) -> bool {
-    let n = output.len();
-    if room.len() < n {
-        return false;
+    fn sheet(self) -> &'a [u8] {
+        part(self.0, HEAD, self.word(SHEET))
     }
-    let outcome = run(sheet, state_of(record), &mut room[..n]);
-    let verdict = outcome.verdict;
-    let state = outcome.state;
-    verdict_agrees(record, verdict) && state_agrees(record, state) && begins_with(room, output)
-}
 
-fn fill(room: &mut [u8]) {
-    let mut j = 0;
-    while j < room.len() {
-        room[j] = (j % 251) as u8;
-        j += 1;
+    fn output(self) -> &'a [u8] {
+        part(self.0, HEAD + self.word(SHEET), self.word(OUTPUT))
     }
-}
 
-// The state before the run.
-fn state_of(record: &[u8]) -> QuadMixer {
-    QuadMixer {
-        last_motors: [
-            float_of(read_u32(record, BEFORE)),
-            float_of(read_u32(record, BEFORE + 4)),
-            float_of(read_u32(record, BEFORE + 8)),
-            float_of(read_u32(record, BEFORE + 12)),
-        ],
-        last_torque_scale: float_of(read_u32(record, BEFORE + 16)),
-        last_torque: [
-            float_of(read_u32(record, BEFORE + 20)),
-            float_of(read_u32(record, BEFORE + 24)),
-            float_of(read_u32(record, BEFORE + 28)),
-        ],
+    fn text(self) -> &'a [u8] {
+        part(
+            self.0,
+            HEAD + self.word(SHEET) + self.word(OUTPUT),
+            self.word(PRINTED),
+        )
     }
-}
 
-fn verdict_agrees(record: &[u8], verdict: Verdict) -> bool {
-    match verdict {
-        Verdict::Accepted => word(record, NUMBER) == 0 && word(record, ENTRY) == 0,
-        Verdict::Refused(r, i) => {
-            word(record, NUMBER) == number(r) as usize && word(record, ENTRY) == i as usize
+    // The eight words of a state.
+    fn state(self, at: usize) -> [u32; 8]
+        requires { at ≤ 48 }
+    {
+        array::from_fn(|i| read_u32(self.0, at + 4 * i))
+    }
+
+    // Whether a run from the record's state gives its number, entry number, state and output. Before it, byte j of the
+    // output is j modulo 251. An output that is longer than the room counts as a difference.
+    fn run_agrees(self) -> bool {
+        let output = self.output();
+        let mut room: [u8; MOST] = array::from_fn(|j| (j % 251) as u8);
+        let Some(lent) = room.get_mut(..output.len()) else {
+            return false;
+        };
+        let outcome = run(self.sheet(), state_of(self.state(BEFORE)), lent);
+        let (number, entry) = match outcome.verdict {
+            Verdict::Accepted => (0, 0),
+            Verdict::Refused(refusal, entry) => (number(refusal), entry),
+        };
+        self.word(NUMBER) == usize::from(number)
+            && self.word(ENTRY) == usize::from(entry)
+            && self.state(AFTER) == words_of(outcome.state)
+            && room.starts_with(output)
+    }
+
+    // Whether the body of the record's entry is the record's part of the sheet.
+    fn body_agrees(self) -> bool {
+        let size = self.word(BODY_SIZE);
+        let told = part(self.sheet(), self.word(BODY_AT), size);
+        told.len() == size && body(self.sheet(), self.word(BODY_ENTRY)) == told
+    }
+
+    // Whether what is printed is the record's text. A record without one does not tell.
+    fn text_agrees(self) -> bool {
+        let text = self.text();
+        if text.is_empty() {
+            return true;
         }
+        let mut space = [0; TEXT];
+        let size = text_of(self.sheet(), &mut space);
+        space.get(..size) == Some(text)
+    }
+}
+
+// A state of its words: the motors, the scale and the sums.
+fn state_of(words: [u32; 8]) -> QuadMixer {
+    let [m1, m2, m3, m4, scale, roll, pitch, yaw] = words.map(float_of);
+    QuadMixer {
+        last_motors: [m1, m2, m3, m4],
+        last_torque_scale: scale,
+        last_torque: [roll, pitch, yaw],
     }
 }
 
 // A NaN is written as 7fc00000 in the record and by `bits_of`.
-fn state_agrees(record: &[u8], state: QuadMixer) -> bool {
-    let m = state.last_motors;
-    let sums = state.last_torque;
-    bits_of(m[0]) == read_u32(record, AFTER)
-        && bits_of(m[1]) == read_u32(record, AFTER + 4)
-        && bits_of(m[2]) == read_u32(record, AFTER + 8)
-        && bits_of(m[3]) == read_u32(record, AFTER + 12)
-        && bits_of(state.last_torque_scale) == read_u32(record, AFTER + 16)
-        && bits_of(sums[0]) == read_u32(record, AFTER + 20)
-        && bits_of(sums[1]) == read_u32(record, AFTER + 24)
-        && bits_of(sums[2]) == read_u32(record, AFTER + 28)
+fn words_of(state: QuadMixer) -> [u32; 8] {
+    let [m1, m2, m3, m4] = state.last_motors;
+    let [roll, pitch, yaw] = state.last_torque;
+    [m1, m2, m3, m4, state.last_torque_scale, roll, pitch, yaw].map(bits_of)
 }
 
-// ---- the body, and the text
+// Our answers to the list's sheets.
+#[derive(Clone, Copy)]
+pub(crate) struct Sheets;
 
-// Whether the body of the record's entry is the record's part of the sheet.
-fn body_agrees(record: &[u8], sheet: &[u8]) -> bool {
-    let size = word(record, BODY_SIZE);
-    let told = part(sheet, word(record, BODY_AT), size);
-    told.len() == size && same(body(sheet, word(record, BODY_ENTRY)), told)
-}
+// A record that differs.
+#[derive(Clone, Copy)]
+pub(crate) struct Difference;
 
-// Whether what is printed is the record's text. A record without one does not tell.
-fn text_agrees(sheet: &[u8], text: &[u8]) -> bool {
-    if text.len() == 0 {
-        return true;
+impl fmt::Display for Difference {
+    fn fmt<W: fmt::Write>(&self, f: &mut fmt::Formatter<W>) -> fmt::Result {
+        f.write_str(" differs")
     }
-    let mut space = [0u8; TEXT];
-    let n = text_of(sheet, &mut space);
-    same(&space[..n], text)
 }
 
-fn same(a: &[u8], b: &[u8]) -> bool {
-    a.len() == b.len() && begins_with(a, b)
-}
+impl Answers for Sheets {
+    type Difference = Difference;
 
-// Whether the first bytes of a are all of b.
-fn begins_with(a: &[u8], b: &[u8]) -> bool {
-    if a.len() < b.len() {
-        return false;
+    // All.
+    const SHOWN: usize = usize::MAX;
+
+    fn size_of(list: &[u8]) -> usize {
+        Record(list).size()
     }
-    let mut i = 0;
-    while i < b.len() {
-        if a[i] != b[i] {
-            return false;
+
+    fn compare(&mut self, record: &[u8]) -> Result<(), Difference> {
+        let record = Record(record);
+        if record.run_agrees() && record.body_agrees() && record.text_agrees() {
+            Ok(())
+        } else {
+            Err(Difference)
         }
-        i += 1;
     }
-    true
 }

@@ -1,1 +1,0 @@
--- `sheets::record::begins_with` is safe and ends: the loop counts the bytes of the shorter. Assumes nothing.
