@@ -37,43 +37,43 @@ fn main() {
 
 fn plain() {
     let q = QuadMixer::new();
-    print_state(1, b"plain", q.mix([0.25, 0.25, 0.0], 0.75));
-    print_state(2, b"plain", q.mix([0.5, 0.0, 0.0], 0.25));
-    print_state(3, b"plain", q.mix([0.0, 0.0, 0.0], POWER_24));
-    print_state(3, b"plain", q.mix([0.0, 0.0, 0.0], POWER_24_AND_4));
-    print_state(4, b"plain", q.mix([-POWER_127, -0.25, -0.25], POWER_127));
+    print_state(1, "plain", q.mix([0.25, 0.25, 0.0], 0.75));
+    print_state(2, "plain", q.mix([0.5, 0.0, 0.0], 0.25));
+    print_state(3, "plain", q.mix([0.0, 0.0, 0.0], POWER_24));
+    print_state(3, "plain", q.mix([0.0, 0.0, 0.0], POWER_24_AND_4));
+    print_state(4, "plain", q.mix([-POWER_127, -0.25, -0.25], POWER_127));
 }
 
 fn thrust_floor() {
     let q = QuadMixer::new();
     print_state(
         5,
-        b"thrust-floor",
+        "thrust-floor",
         q.mix_thrust_floor([0.125, 0.125, 0.0], 0.5, 0.25),
     );
     print_state(
         6,
-        b"thrust-floor",
+        "thrust-floor",
         q.mix_thrust_floor([0.5, 0.0, 0.0], 0.5, 0.25),
     );
     print_state(
         7,
-        b"thrust-floor",
+        "thrust-floor",
         q.mix_thrust_floor([0.5, 0.0, 0.0], -0.0, 0.0),
     );
 }
 
 fn priority() {
     let q = QuadMixer::new();
-    print_state(8, b"priority", q.mix_priority([0.25, 0.0, 0.5], 0.5, 0.0));
+    print_state(8, "priority", q.mix_priority([0.25, 0.0, 0.5], 0.5, 0.0));
 }
 
 fn airmode() {
     let q = QuadMixer::new();
-    print_state(9, b"airmode", q.mix_airmode([0.25, 0.0, 0.0], 0.25, 0.125));
+    print_state(9, "airmode", q.mix_airmode([0.25, 0.0, 0.0], 0.25, 0.125));
     print_state(
         10,
-        b"airmode",
+        "airmode",
         q.mix_airmode([POWER_127, 0.0, 0.0], 0.5, 0.25),
     );
 }
@@ -85,28 +85,28 @@ fn rotor_out(figure: u64, failed: usize, roll: f32, pitch: f32) {
     let infinity = float_of(0x7f80_0000);
     print_state(
         figure,
-        b"rotor-out",
+        "rotor-out",
         q.mix_rotor_out(failed, [roll, pitch, 0.0], 0.5, 0.0),
     );
     print_state(
         figure,
-        b"rotor-out",
+        "rotor-out",
         q.mix_rotor_out(failed, [roll, pitch, nan], 0.5, 0.0),
     );
     print_state(
         figure,
-        b"rotor-out",
+        "rotor-out",
         q.mix_rotor_out(failed, [roll, pitch, infinity], 0.5, 0.0),
     );
 }
 
 fn any_frame() {
     let infinity = float_of(0x7f80_0000);
-    let m = MixerN::quad_x().mix([-POWER_127, -0.25, -0.25], POWER_127);
-    print(4, b"quad_x", &[m[0], m[1], m[2], m[3]]);
-    print(14, b"hex_x", &mix_hex_x(wrench(0.0, 0.5)));
-    print(15, b"octo_coax", &mix_octo_coax(wrench(infinity, 0.0)));
-    print(15, b"quad_x", &MixerN::quad_x().mix([0.0; 3], infinity));
+    let motors = MixerN::quad_x().mix([-POWER_127, -0.25, -0.25], POWER_127);
+    print(4, "quad_x", &motors[..4]);
+    print(14, "hex_x", &mix_hex_x(wrench(0.0, 0.5)));
+    print(15, "octo_coax", &mix_octo_coax(wrench(infinity, 0.0)));
+    print(15, "quad_x", &MixerN::quad_x().mix([0.0; 3], infinity));
 }
 
 fn wrench(thrust: f32, roll: f32) -> Wrench {

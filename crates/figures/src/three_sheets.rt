@@ -1,8 +1,8 @@
 // Document 01's three sheets through the call that `mixrun` makes: one thrust-floor entry, no entries, for which
 // nothing is printed, and 65 entries, which is refused.
-use crate::show::STDOUT_FILENO;
 use lines::TEXT;
 use report::text_of;
+use streams::STDOUT_FILENO;
 
 const ONE_ENTRY: [u8; 28] = [
     0x01, 0x01, 0x1c, 0x00, 0x01, 0x00, 0x08, 0x00, 0x00, 0x00, 0x00, 0x3f, 0x00, 0x00, 0x00, 0x3f,
@@ -14,12 +14,9 @@ const NO_ENTRIES: [u8; 4] = [0x01, 0x00, 0x04, 0x00];
 const TOO_MANY: [u8; 4] = [0x01, 0x41, 0x04, 0x00];
 
 pub(crate) fn show_all() {
-    let one_entry = ONE_ENTRY;
-    let no_entries = NO_ENTRIES;
-    let too_many = TOO_MANY;
-    show(&one_entry);
-    show(&no_entries);
-    show(&too_many);
+    show(&ONE_ENTRY);
+    show(&NO_ENTRIES);
+    show(&TOO_MANY);
 }
 
 fn show(sheet: &[u8]) {
