@@ -69,9 +69,9 @@ fn matrix(x: &[f32; INPUTS]) -> [[f32; 3]; 3] {
 
 // The inputs are the matrix and the right side. The answers are whether there is a solution, and its three numbers.
 fn solution(x: &[f32; INPUTS]) -> Words {
-    let s = solve::solve3(matrix(x), [x[9], x[10], x[11]]);
-    let [x, y, z] = s.x.map(bits_of);
+    let found = solve::solve3(matrix(x), [x[9], x[10], x[11]]);
+    let [x, y, z] = found.unwrap_or([0.0; 3]).map(bits_of);
     let mut words = [0; WORDS];
-    words[..4].copy_from_slice(&[s.solved as u32, x, y, z]);
+    words[..4].copy_from_slice(&[u32::from(found.is_some()), x, y, z]);
     words
 }

@@ -4,7 +4,8 @@ ghost use Rattle.std.specs.Prelude.{◌+◌, ◌*◌, ◌≤◌};
 use crate::answers::{INPUTS, Words, words_of};
 use crate::frames::wrench;
 use bits::bits_of;
-use multi_thrust_floor::{FloorAnswer, mix, mix_hex_x, mix_octo_coax};
+use multi_thrust_floor::{mix, mix_hex_x, mix_octo_coax};
+use thrust_floor::MotorsAndScale;
 use words::WORDS;
 
 pub(crate) fn answer(head: u32, x: &[f32; INPUTS]) -> Option<Words> {
@@ -16,14 +17,8 @@ pub(crate) fn answer(head: u32, x: &[f32; INPUTS]) -> Option<Words> {
         0x2109_0025 => lent(x, 8),
         0x2140_0101 => lent(x, 63),
         0x2141_0105 => lent(x, 64),
-        0x2207_0005 => {
-            let given = mix_hex_x(wrench(x), x[4]);
-            Some(scaled(&given.motors, given.scale))
-        }
-        0x2309_0005 => {
-            let given = mix_octo_coax(wrench(x), x[4]);
-            Some(scaled(&given.motors, given.scale))
-        }
+        0x2207_0005 => Some(scaled(mix_hex_x(wrench(x), x[4]))),
+        0x2309_0005 => Some(scaled(mix_octo_coax(wrench(x), x[4]))),
         _ => None,
     }
 }
@@ -34,25 +29,16 @@ fn lent(x: &[f32; INPUTS], outputs: usize) -> Option<Words>
     requires { outputs ≤ 64 }
 {
     let mut room = [0.0; WORDS];
-    match mix(
-        &x[5..5 + 4 * outputs],
-        wrench(x),
-        x[4],
-        &mut room[..outputs],
-    ) {
-        FloorAnswer::Mixed(scale) => {
-            room[outputs] = scale;
-            Some(words_of(&room))
-        }
-        FloorAnswer::Refused => None,
-    }
+    let rows = &x[5..5 + 4 * outputs];
+    room[outputs] = mix(rows, wrench(x), x[4], &mut room[..outputs]).ok()?;
+    Some(words_of(&room))
 }
 
 // Motors and the scale after them, as an answer.
-fn scaled(motors: &[f32], scale: f32) -> Words {
-    let mut words = words_of(motors);
-    if let Some(word) = words.get_mut(motors.len()) {
-        *word = bits_of(scale);
+fn scaled<const N: usize>(given: MotorsAndScale<N>) -> Words {
+    let mut words = words_of(&given.motors);
+    if let Some(word) = words.get_mut(N) {
+        *word = bits_of(given.scale);
     }
     words
 }

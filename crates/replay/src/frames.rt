@@ -3,7 +3,7 @@ ghost use Rattle.std.specs.Prelude.{◌+◌, ◌*◌, ◌≤◌};
 
 use crate::answers::{INPUTS, Words, words_of};
 use frame::MixerN;
-use multi::{MixAnswer, Wrench};
+use multi::Wrench;
 use std::array;
 use words::WORDS;
 
@@ -61,12 +61,7 @@ fn achieved_wrench(x: &[f32; INPUTS]) -> Words {
 
 // The first four inputs, as a wrench.
 pub(crate) fn wrench(x: &[f32; INPUTS]) -> Wrench {
-    Wrench {
-        thrust: x[0],
-        roll: x[1],
-        pitch: x[2],
-        yaw: x[3],
-    }
+    Wrench::from([x[0], x[1], x[2], x[3]])
 }
 
 // The inputs are the wrench and the rows. The motors are written to the first of the floats that are lent, which are
@@ -75,8 +70,6 @@ fn lent(x: &[f32; INPUTS], outputs: usize) -> Option<Words>
     requires { outputs ≤ 64 }
 {
     let mut room = [0.0; WORDS];
-    match multi::mix(&x[4..4 + 4 * outputs], wrench(x), &mut room[..outputs]) {
-        MixAnswer::Mixed => Some(words_of(&room)),
-        MixAnswer::Refused => None,
-    }
+    multi::mix(&x[4..4 + 4 * outputs], wrench(x), &mut room[..outputs]).ok()?;
+    Some(words_of(&room))
 }

@@ -4,12 +4,10 @@ ghost use Rattle.std.specs.Prelude.{◌≤◌, ◌<◌};
 
 use bits::{bits_of, float_of};
 use bodies::body;
-use entries::refusal::number;
 use lines::TEXT;
 use lists::Answers;
 use quad::QuadMixer;
 use report::text_of;
-use sheet::Verdict;
 use sheet_run::run;
 use std::{array, fmt};
 use wire::read_u32;
@@ -96,14 +94,14 @@ impl<'a> Record<'a> {
         let Some(lent) = room.get_mut(..output.len()) else {
             return false;
         };
-        let outcome = run(self.sheet(), state_of(self.state(BEFORE)), lent);
-        let (number, entry) = match outcome.verdict {
-            Verdict::Accepted => (0, 0),
-            Verdict::Refused(refusal, entry) => (number(refusal), entry),
+        let before = state_of(self.state(BEFORE));
+        let (number, entry, after) = match run(self.sheet(), before, lent) {
+            Ok(after) => (0, 0, after),
+            Err(refused) => (u8::from(refused.why), refused.entry, before),
         };
         self.word(NUMBER) == usize::from(number)
             && self.word(ENTRY) == usize::from(entry)
-            && self.state(AFTER) == words_of(outcome.state)
+            && self.state(AFTER) == words_of(after)
             && room.starts_with(output)
     }
 
