@@ -1,6 +1,6 @@
--- `lists::compare_list` ends, and its counts do not overflow. The loop's invariant: a record has a byte or more, so at most
--- as many records were passed as bytes, and at most as many differ as were passed. The measure is what is left of the
--- list. Assumes nothing.
+-- `lists::compare_list` ends, and its counts do not overflow. The loop's invariant: a record has a byte or more, so at
+-- most as many records were passed as bytes, and at most as many differ as were passed. The measure is what is left of
+-- the list. Assumes nothing.
 use Rattle.std.proofs.Common.{◌+◌, ◌≤◌, length}
 use Rattle.lists.proofs.compare_list.Given as goal
 
