@@ -10,6 +10,7 @@ use std::array;
 use words::WORDS;
 
 // The most words that the inputs of a kind take: a wrench, a floor and 64 rows.
+// They go through the kinds as a plain array: in a struct each `x[3]` would be an `x.0[3]`, which is no plainer.
 pub(crate) const INPUTS: usize = 261;
 
 // An answer: its words, with zeros after the last.

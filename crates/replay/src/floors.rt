@@ -25,6 +25,7 @@ pub(crate) fn answer(head: u32, x: &[f32; INPUTS]) -> Option<Words> {
 
 // The inputs are the wrench, the floor and the rows. The motors are written to the first of the floats that are lent,
 // which are zeros, and the scale after them. No record is one that is refused, so a refusal counts as a difference.
+// (One function with that of frames.rt would be no plainer: it would take the mix, and whether there is a scale.)
 fn lent(x: &[f32; INPUTS], outputs: usize) -> Option<Words>
     requires { outputs ≤ 64 }
 {
