@@ -19,7 +19,8 @@ use wire::read_u32;
 pub const TEXT: usize = 13515;
 
 // The text, and the place in it that was reached. A method whose name begins with `put` writes a part of what is
-// printed at that place, where it has to fit, and goes on to the place after it.
+// printed at that place, where it has to fit, and goes on to the place after it. (No `write!`: it may answer an Err,
+// and says nothing of the text then, where these functions cannot fail.)
 #[derive(Drop)]
 struct Page<'a> {
     text: &'a mut [u8; TEXT],
@@ -81,7 +82,8 @@ impl<'a> Page<'a> {
     }
 }
 
-// The lines of a sheet that was run, at the start of the text. Answers how many bytes they are.
+// The lines of a sheet that was run, at the start of the text. Answers how many bytes they are: with no heap, the text
+// is lent.
 pub fn entry_lines(sheet: &[u8], answers: &[u8], text: &mut [u8; TEXT]) -> usize
     ensures { Written (lines_of sheet.now answers.now) text.old text.new result }
 {

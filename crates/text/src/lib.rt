@@ -1,6 +1,7 @@
 // Numbers as text, in lent bytes at any place. What does not fit at its place is not written.
 //
 // The digits are made by the kit's crate io, whose contracts say which they are; here they get their place in a line.
+// (No `write!`: it may answer an Err, and says nothing of the bytes then, where these functions cannot fail.)
 
 #![tactic(auto)]
 
