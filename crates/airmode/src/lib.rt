@@ -1,6 +1,6 @@
 // The airmode mix: torque before thrust, with an idle floor. Follows relay-mix-quad's `mix_airmode` (Apache-2.0, see
 // NOTICE); changed: written in Rattle with contracts, with choices in the place of branches, the loops over four motors
-// written out and the ends of the last clamp taken in turn, and without the tests there that never fail (a treated
+// as `map`s and the ends of the last clamp taken in turn, and without the tests there that never fail (a treated
 // spread is finite, and so is the quotient by a spread over SMALL).
 
 #![tactic(auto)]

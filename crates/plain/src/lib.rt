@@ -1,5 +1,5 @@
 // The plain mix: torque before thrust. Follows relay-mix-quad's `mix` (Apache-2.0, see NOTICE); changed: written in
-// Rattle with contracts, the loop over the rows written out, and what it shares with the mix of other frames in
+// Rattle with contracts, the loop over the rows as a `map`, and what it shares with the mix of other frames in
 // functions of their own.
 
 #![tactic(auto)]

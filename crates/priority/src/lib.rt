@@ -1,6 +1,6 @@
 // The priority mix: thrust before roll and pitch, and these before yaw. Follows relay-mix-quad's `mix_priority`
 // (Apache-2.0, see NOTICE); changed: written in Rattle with contracts, with choices in the place of branches and the
-// loops over four motors written out.
+// loops over four motors as `map`s, but for the last.
 
 #![tactic(auto)]
 
@@ -86,6 +86,7 @@ pub fn motors(torque_body: [f32; 3], thrust: f32, floor: f32) -> [f32; 4]
     let drp = roll_pitch_groups(torque_body[0], torque_body[1]);
     let sy = yaw_scale(low, base, drp, dy);
     let srp = roll_pitch_scale(low, base, sy, drp, dy);
+    // Written out: `map` walks one array; two side by side take an index with its bound, which is no plainer.
     [
         priority_motor(low, base, srp, sy, drp[0], dy[0]),
         priority_motor(low, base, srp, sy, drp[1], dy[1]),
