@@ -57,8 +57,8 @@ module _ (out answers : List ℕ) (held : length answers ≤ length out) where
 
 -- ---- what is printed
 
-module _ {s out : List ℕ} {v : Result Unit Refused} {after : QuadMixer} {written : List ℕ} (run : Ran s fresh out v after written)
-    (size : length out ≡ room) where
+module _ {s out : List ℕ} {v : Result Unit Refused} {after : QuadMixer} {written : List ℕ}
+    (run : Ran s fresh out v after written) (size : length out ≡ room) where
   told : told_by v ≡ judged_for s room
   told = run.told ∙ ap (judged_for s) size
 

@@ -16,8 +16,8 @@ use Rattle.sheet_run.proofs.Methods.{gives_called}
 pub call_determined : (q : QuadMixer) (c : Command) → Determined (Gives q c)
 call_determined q c r p h k = equal_determined r p (gives_called q c r h) (gives_called q c p k)
 
-pub run_determined : (s : List ℕ) (before : QuadMixer) (out : List ℕ) (v w : Result Unit Refused) (after other : QuadMixer)
-    (written put : List ℕ)
+pub run_determined : (s : List ℕ) (before : QuadMixer) (out : List ℕ) (v w : Result Unit Refused)
+    (after other : QuadMixer) (written put : List ℕ)
     → Ran s before out v after written → Ran s before out w other put → (v ≡ w) × (after ≡ other) × (written ≡ put)
 run_determined s before out v w after other written put h k = (
   verdict_tells v w (h.told ∙ sym k.told),

@@ -1,6 +1,7 @@
 -- Running a sheet (document 01, 'The command sheet (ours)': "An accepted sheet is run from a [...] state as the same
 -- calls one after another"). Definitions only; the quotations are document 01's.
-use Rattle.std.specs.Prelude.{◌≡◌, cond, List, [], ◌∷◌, ◌++◌, ℕ, zero, suc, ◌*◌, ltb, eqb, length, Float, Result, Ok, Err}
+use Rattle.std.specs.Prelude.{◌≡◌, cond, List, [], ◌∷◌, ◌++◌, ℕ, zero, suc, ◌*◌, ltb, eqb, length, Float}
+use Rattle.std.specs.Prelude.{Result, Ok, Err}
 use Rattle.std.specs.Float.{binary32}
 use Rattle.std.specs.Float.Ieee.{to_bits}
 use Rattle.wire.specs.Bytes.{bytes_of, write_at}

@@ -13,6 +13,7 @@ invariant-loop-number l = record {
   size : length l.out ≡ length l.initial.out;
   state : ran l.q (commands_from l.sheet l.number (count_of l.sheet - l.number))
       ≡ ran l.initial.q (commands_of l.sheet);
-  output : write_at l.out (20 * l.number) (answers_of l.q (commands_from l.sheet l.number (count_of l.sheet - l.number)))
+  output : write_at l.out (20 * l.number)
+      (answers_of l.q (commands_from l.sheet l.number (count_of l.sheet - l.number)))
       ≡ write_at l.initial.out 0 (answers_of l.initial.q (commands_of l.sheet));
 }
