@@ -12,7 +12,6 @@ use Rattle.refusals.specs.Numbers.{accepted}
 use Rattle.refusals.specs.Told.{Told}
 use Rattle.quad.specs.declared.QuadMixer.{QuadMixer}
 use Rattle.quad.specs.State.{fresh}
-use Rattle.entries.specs.declared.refusal.Refusal.{Refusal}
 use Rattle.entries.specs.Layout.{count_of}
 use Rattle.entries.specs.Refusal.{refusal_number}
 use Rattle.entries.proofs.Chosen.{never_accepted}

@@ -5,7 +5,6 @@ use Prim.Native.Nat.{ℕ}
 use lib.ListN.{length}
 use Rattle.wire.specs.Bytes.{write_at}
 use Rattle.quad.specs.declared.QuadMixer.{QuadMixer}
-use Rattle.entries.specs.declared.refusal.Refusal.{Refusal}
 use Rattle.entries.specs.Layout.{count_of}
 use Rattle.entries.proofs.Chosen.{never_accepted}
 use Rattle.std.specs.declared.result.Result.{Result}

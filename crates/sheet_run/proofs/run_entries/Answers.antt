@@ -1,7 +1,7 @@
 -- `sheet_run::run_entries` meets its contract. The invariant: the commands that are left, from the state and the place
 -- reached, give the whole run's state and output. Assumes nothing.
 use mathlib.Core.Path.{◌≡◌, refl, sym, ap, ◌∙◌}
-use Prim.Native.Nat.{◌*◌, ◌-◌, ◌≤◌, ◌<◌, ℕ}
+use Prim.Native.Nat.{◌*◌, ◌-◌, ◌≤◌, ◌<◌}
 use native.Mathlib.Omega.{arith}
 use lib.ListN.{length}
 use borrow.Rule.Slice.PartMut.{put_mid}
@@ -12,7 +12,7 @@ use Rattle.entries.specs.Layout.{count_of}
 use Rattle.entries.specs.Entry.{command_with, command_at}
 use Rattle.entries.proofs.Chosen.{chosen_case}
 use Rattle.sheet.proofs.Accepted.{is_accepted_lem, is_command}
-use Rattle.sheet_run.specs.Run.{called, commands_from, ran, answer_of, answers_of}
+use Rattle.sheet_run.specs.Run.{called, answer_of}
 use Rattle.sheet_run.proofs.Methods.{gives_called}
 use Rattle.sheet_run.proofs.Judged.{output_fits}
 use Rattle.sheet_run.proofs.ByVerdict.{run_accepted}
