@@ -1,4 +1,5 @@
--- Where no motor's limit is under 1, the fit scale is 1; and the search for such a motor, step by step. Assumes nothing.
+-- Where no motor's limit is under 1, the fit scale is 1; and the search for such a motor, step by step. Assumes
+-- nothing.
 use mathlib.Core.Path.{◌≡◌, refl, sym, ap, ◌∙◌}
 use mathlib.Core.Bool.{Bool, true, false, ◌||◌, cond}
 use mathlib.Core.List.{List, [], ◌∷◌}

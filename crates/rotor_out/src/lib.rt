@@ -1,7 +1,7 @@
 // The mix for a lost rotor. Follows relay-mix-quad's `mix_rotor_out` (Apache-2.0, see NOTICE); changed: written in
-// Rattle with contracts, with choices in the place of branches, the equations of each lost rotor solved by a function of
-// its own, a table of what the floor counts in the place of a choice by that number, and the ends of the tilt's clamp
-// taken in turn.
+// Rattle with contracts, with choices in the place of branches, the equations of each lost rotor solved by a copy of
+// the code, a table of what the floor counts in the place of a choice by that rotor's number, and the ends of the
+// tilt's clamp taken in turn.
 
 #![tactic(auto)]
 

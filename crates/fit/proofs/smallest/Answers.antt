@@ -15,7 +15,8 @@ loop-b-preserved c =
     let floor = c.args.floor in
     let s = c.loop-b.s in
     let inv = c.loop-b.invariant in
-    let left = Zip-more c.loop-b.b-iterator c.next.new.self _ (c.in-Some.b, c.in-Some.d) refl c.in-Some.ensures.steps in (
+    let left =
+    Zip-more c.loop-b.b-iterator c.next.new.self _ (c.in-Some.b, c.in-Some.d) refl c.in-Some.ensures.steps in (
       rw c.tighten-s.ensures (walk_next floor s left.0 left.1) ∙ inv.0,
       rw c.tighten-s.ensures (step_held floor s _ _ inv.1),
     )
