@@ -16,8 +16,8 @@ ghost use Rattle.quad.specs.State.{fresh};
 use quad::QuadMixer;
 
 // A state as it is, its parts read one by one. A mix has just written them so, and a processor that reads at once what
-// was written in parts waits until they have reached its memory. (Plain and thrust-floor go without: decision 140, where
-// the times stand that this copy by hand saves.)
+// was written in parts waits until they have reached its memory. (Plain and thrust-floor go without. Kept
+// for its speed: decision 140.)
 fn part_by_part(state: QuadMixer) -> QuadMixer
     ensures { result ≡ state }
 {
