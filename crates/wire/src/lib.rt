@@ -15,12 +15,11 @@ pub fn byte(s: &[u8], at: usize) -> u8
     if at < s.len() { s[at] } else { 0 }
 }
 
-// The N bytes from a place on. Past the end nothing is added to `at`, which may be the largest.
+// The N bytes from a place on. A sum that is past the largest is past the end too.
 fn bytes<const N: usize>(s: &[u8], at: usize) -> [u8; N]
     ensures { EachIndex result (λ k. slice_index result k ≡ slice_index s.now (at + k)) }
 {
-    let rest = s.get(at..).unwrap_or(&[]);
-    array::from_fn(|k| byte(rest, k))
+    array::from_fn(|k| byte(s, at.saturating_add(k)))
 }
 
 // The two-byte number at a place.
