@@ -41,13 +41,15 @@ fn treated_sums(rows: &[[f32; 4]], torque_body: [f32; 3], thrust: f32, m: &mut [
     let r = sanitise(torque_body[0]);
     let p = sanitise(torque_body[1]);
     let y = sanitise(torque_body[2]);
+    // (By index: of a slice that `iter_mut().zip` went through the library promises the length alone.)
     for (i, row) in rows.iter().enumerate() {
         let sum = raw_sum(*row, t, r, p, y);
         m[i] = sanitise(sum);
     }
 }
 
-// What treated motors give by their rows: sums from +0 on, rotor by rotor.
+// What treated motors give by their rows: sums from +0 on, rotor by rotor. (Four names are plainer than an array of sums
+// and a fold: each line says which column it adds.)
 fn wrench_of(rows: &[[f32; 4]], motors: &[f32]) -> [f32; 4]
     ensures { result ≡ achieved rows.now motors.now }
 {

@@ -3,12 +3,10 @@
 use mathlib.Core.Path.{◌≡◌, ap, ◌∙◌}
 use mathlib.Core.Bool.{true, false}
 use mathlib.Core.List.{List, [], ◌∷◌}
-use Prim.Native.Nat.{ℕ}
-use native.Mathlib.Omega.{arith}
 use lib.Dec.{T}
 use lib.ListN.{length}
 use lib.Ieee.{Float, binary32, fits}
-use Rattle.number.proofs.Choice.{taken, left}
+use Rattle.number.proofs.Choice.{left}
 use Rattle.rules.specs.Rows.{Row, rows_of}
 use Rattle.rules.specs.Command.{deltas}
 use Rattle.rules.specs.Multi.{rows_refused}
@@ -16,8 +14,7 @@ use Rattle.refusals.specs.Numbers.{accepted, bad_rows}
 use Rattle.rules.specs.ThrustFloor.{thrust_floor_scale, thrust_floor_motors}
 use Rattle.rules.proofs.Keeps.{thrust_floor_keeps}
 use Rattle.multi.specs.declared.Wrench.{Wrench}
-use Rattle.std.specs.Prelude.{Ok, Err}
-use Rattle.multi.specs.declared.BadRows.{BadRows}
+use Rattle.std.specs.Prelude.{Ok}
 use Rattle.multi_thrust_floor.specs.Floored.{wrench_torque, floored_motors, floored_scale, Floored, RowsFloored}
 use Rattle.multi_thrust_floor.specs.Granted.{Granted}
 
@@ -43,23 +40,11 @@ module _ {w : Wrench} {floor : Float} {motors : List Float} {scale : Float} wher
   floored_by_steps ft ff asked granted =
       floored (rw ft tt) (rw ff tt) (granted.is ∙ rw asked) (granted.scale_is ∙ rw asked)
 
--- no scale is none, and of one scale there is one
-no_scale : (s : Float) → [] ≡ s ∷ [] → ⊥
-no_scale s e = let z : ◌≡◌ {A = ℕ} 0 1 = ap length e in omega arith
-
+-- of one scale there is one
 one_scale_lem : {s t : Float} → s ∷ [] ≡ t ∷ [] → s ≡ t
 one_scale_lem e = cc
 
 module _ {run : List Float} {w : Wrench} {floor : Float} {before : List Float} where
-  pub answer_refused : {bad : BadRows} → rows_refused (length run) (length before) ≡ true
-      → RowsFloored run w floor before (Err bad) before
-  answer_refused e = record {
-    number = taken bad_rows accepted e;
-    scale = taken [] _ e;
-    output = taken before _ e;
-    keeps = λ s none. absurd (no_scale s none);
-  }
-
   pub answer_mixed : {after : List Float} {s : Float} → rows_refused (length run) (length before) ≡ false
       → Floored (rows_of run) w floor after s
       → RowsFloored run w floor before (Ok s) after

@@ -27,6 +27,7 @@ fn ask(rows: &[[f32; 4]], w: Wrench, out: &mut [f32])
     let r = sanitise(w.roll);
     let p = sanitise(w.pitch);
     let y = sanitise(w.yaw);
+    // (By index: of a slice that `iter_mut().zip` went through the library promises the length alone.)
     for (i, row) in rows.iter().enumerate() {
         out[i] = delta(*row, r, p, y);
     }

@@ -1,6 +1,6 @@
 // The thrust-floor mix: thrust before torque. Follows relay-mix-quad's `mix_thrust_floor` (Apache-2.0, see NOTICE);
-// changed: written in Rattle with contracts, with choices in the place of branches and the loops over four motors
-// written out.
+// changed: written in Rattle with contracts, with choices in the place of branches, and `map` in the place of the loop
+// that gives the motors.
 
 #![tactic(auto)]
 

@@ -1,4 +1,5 @@
--- `multi_thrust_floor::mix_hex_x` meets its contract: the rows of the table's run are document 01's six. Assumes nothing.
+-- `multi_thrust_floor::mix_hex_x` meets its contract: the rows of the table's run are document 01's six. Assumes
+-- nothing.
 use native.Mathlib.Omega.{arith}
 use Rattle.rules.specs.Rows.{hex_rows}
 use Rattle.rules.proofs.Rows.{hex_rows_lem}

@@ -1,4 +1,5 @@
--- `multi_thrust_floor::mix_octo_coax` meets its contract: the rows of the table's run are document 01's eight. Assumes nothing.
+-- `multi_thrust_floor::mix_octo_coax` meets its contract: the rows of the table's run are document 01's eight. Assumes
+-- nothing.
 use native.Mathlib.Omega.{arith}
 use Rattle.rules.specs.Rows.{octo_rows}
 use Rattle.rules.proofs.Rows.{octo_rows_lem}
