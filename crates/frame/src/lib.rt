@@ -33,6 +33,7 @@ pub struct MixerN {
 }
 
 // Each row's sum, treated by itself: an overflow asks for nothing.
+// (A type of rows and as many outputs would be no plainer: each caller has one such pair, and lends it once.)
 fn treated_sums(rows: &[[f32; 4]], torque_body: [f32; 3], thrust: f32, m: &mut [f32])
     requires { length rows.now ≡ length m.old }
     ensures { m.new ≡ map treated (raw_sums rows.now torque_body thrust) }

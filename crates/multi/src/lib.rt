@@ -84,6 +84,7 @@ pub fn rows_for(run: &[f32], outputs: usize) -> Result<&[[f32; 4]], BadRows>
 }
 
 // Each output from its row.
+// (A type of rows and as many outputs would be no plainer: each caller has one such pair, and lends it once.)
 fn allocate(rows: &[[f32; 4]], w: Wrench, out: &mut [f32])
     requires { length rows.now ≡ length out.old }
     ensures { out.new ≡ motors_of w rows.now }

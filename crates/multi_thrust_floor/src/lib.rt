@@ -20,6 +20,7 @@ use rotors::rows::rows_of;
 use thrust_floor::{MotorsAndScale, scaled_motor};
 
 // What the torque asks of each rotor, by its row: the deltas. A row's thrust is not read.
+// (A type of rows and as many outputs would be no plainer: each caller has one such pair, and lends it once.)
 fn ask(rows: &[[f32; 4]], w: Wrench, out: &mut [f32])
     requires { length rows.now ≡ length out.old }
     ensures { out.new ≡ deltas rows.now (wrench_torque w) }
