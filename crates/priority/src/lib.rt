@@ -1,6 +1,6 @@
 // The priority mix: thrust before roll and pitch, and these before yaw. Follows relay-mix-quad's `mix_priority`
 // (Apache-2.0, see NOTICE); changed: written in Rattle with contracts, with choices in the place of branches and the
-// loops over four motors as `map`s, but for the last.
+// loops over four motors as `map`s, and the last by their numbers.
 
 #![tactic(auto)]
 
@@ -15,6 +15,7 @@ ghost use Rattle.rules.specs.Priority.{roll_pitch_scale, priority_motor, priorit
 use number::{clamp_floor, limit, sanitise};
 use rotors::command::lift;
 use rotors::rows::MIXER_X;
+use std::array;
 
 fn yaw_group(row: [f32; 4], y: f32) -> f32
     ensures { result ≡ yaw_group y row }
@@ -22,6 +23,7 @@ fn yaw_group(row: [f32; 4], y: f32) -> f32
     sanitise(row[3] * y)
 }
 
+// (Two numbers, as the definition takes them: a struct of them would be taken apart at once.)
 fn roll_pitch_group(row: [f32; 4], r: f32, p: f32) -> f32
     ensures { result ≡ roll_pitch_group r p row }
 {
@@ -86,11 +88,5 @@ pub fn motors(torque_body: [f32; 3], thrust: f32, floor: f32) -> [f32; 4]
     let drp = roll_pitch_groups(torque_body[0], torque_body[1]);
     let sy = yaw_scale(low, base, drp, dy);
     let srp = roll_pitch_scale(low, base, sy, drp, dy);
-    // Written out: `map` walks one array; two side by side take an index with its bound, which is no plainer.
-    [
-        priority_motor(low, base, srp, sy, drp[0], dy[0]),
-        priority_motor(low, base, srp, sy, drp[1], dy[1]),
-        priority_motor(low, base, srp, sy, drp[2], dy[2]),
-        priority_motor(low, base, srp, sy, drp[3], dy[3]),
-    ]
+    array::from_fn(|i| priority_motor(low, base, srp, sy, drp[i], dy[i]))
 }
