@@ -5,11 +5,12 @@ use mathlib.Core.List.{List, ◌∷◌, map}
 use Prim.Native.Nat.{ℕ, zero, suc, ◌+◌, ◌≤◌, ◌<◌}
 use native.Mathlib.Numerals.{add-one}
 use native.Mathlib.Omega.{arith}
-use lib.ListN.{length, drop, drop_of_length-le}
+use lib.ListN.{length, get_or, drop, drop_of_length-le}
 use lib.Seq.{drop-cons}
 use denote.Param.Members.{Mut}
 use Rattle.std.specs.Array.{MapsFrom, IsMapOf}
 use Rattle.std.specs.Fn.{Called}
+use Rattle.general.proofs.Lists.{map_at}
 
 module _ {F A B : Type 0} (g : Mut F (A × Unit {0}) B) (f : F) (h : A → B) where
   abbrev Computes : Type 0
@@ -33,3 +34,13 @@ module _ {F A B : Type 0} (g : Mut F (A × Unit {0}) B) (f : F) (h : A → B) wh
   mapped n xs ys hx m k =
       let long : length ys ≡ n = m.long in
       mapped_from k n 0 xs ys (omega arith) (omega arith) m.each
+
+  -- an array of three, number by number
+  pub three_mapped : (xs : List A) (ys : List B) (d : A) (e : B) → length xs ≡ 3 → IsMapOf g f xs ys 3 → Computes
+      → (get_or ys 0 e ≡ h (get_or xs 0 d)) × (get_or ys 1 e ≡ h (get_or xs 1 d)) × (get_or ys 2 e ≡ h (get_or xs 2 d))
+  three_mapped xs ys d e hx m k =
+      let is = mapped 3 xs ys hx m k in
+      let first : 0 < length xs = omega (arith, hx) in
+      let second : 1 < length xs = omega (arith, hx) in
+      let third : 2 < length xs = omega (arith, hx) in
+      rw is (map_at h d e xs 0 first, map_at h d e xs 1 second, map_at h d e xs 2 third)

@@ -17,9 +17,7 @@ fn raw_sums(torque_body: [f32; 3], thrust: f32) -> [f32; 4]
     ensures { result ≡ raw_sums quad_rows torque_body thrust }
 {
     let t = sanitise(thrust);
-    let r = sanitise(torque_body[0]);
-    let p = sanitise(torque_body[1]);
-    let y = sanitise(torque_body[2]);
+    let [r, p, y] = torque_body.map(sanitise);
     MIXER_X.map(
         |row|
             ensures { result ≡ raw_sum t r p y row }

@@ -11,6 +11,7 @@ use crate::rows::MIXER_X;
 use number::{is_moderate, pick, sanitise};
 
 // What thrust and torques ask of the motor of one row. It is not treated: an overflow shows as an infinity.
+// (The functions of one row take numbers one by one, as their definitions do: a struct would be taken apart at once.)
 pub fn raw_sum(row: [f32; 4], t: f32, r: f32, p: f32, y: f32) -> f32
     ensures { result ≡ raw_sum t r p y row }
 {
@@ -51,9 +52,7 @@ fn all_moderate(r: f32, p: f32, y: f32) -> bool
 pub fn deltas(torque_body: [f32; 3]) -> [f32; 4]
     ensures { result ≡ deltas quad_rows torque_body }
 {
-    let r = sanitise(torque_body[0]);
-    let p = sanitise(torque_body[1]);
-    let y = sanitise(torque_body[2]);
+    let [r, p, y] = torque_body.map(sanitise);
     if all_moderate(r, p, y) {
         return MIXER_X.map(
             |row|
