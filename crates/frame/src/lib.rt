@@ -25,6 +25,7 @@ use rotors::rows::rows_of;
 pub const MAX_ROTORS: usize = 8;
 
 // The matrix, and how many rotors there are. The count is for the caller: the mix uses all eight rows, whatever it is.
+// (Room for eight rows and a count beside it, since C passes a mixer as these two: decision 62.)
 #[repr(C)]
 #[derive(Clone, Copy)]
 pub struct MixerN {
@@ -39,9 +40,7 @@ fn treated_sums(rows: &[[f32; 4]], torque_body: [f32; 3], thrust: f32, m: &mut [
     ensures { m.new ≡ map treated (raw_sums rows.now torque_body thrust) }
 {
     let t = sanitise(thrust);
-    let r = sanitise(torque_body[0]);
-    let p = sanitise(torque_body[1]);
-    let y = sanitise(torque_body[2]);
+    let [r, p, y] = torque_body.map(sanitise);
     // (By index: of a slice that `iter_mut().zip` went through the library promises the length alone.)
     for (i, row) in rows.iter().enumerate() {
         let sum = raw_sum(*row, t, r, p, y);

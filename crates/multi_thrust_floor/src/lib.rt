@@ -25,9 +25,7 @@ fn ask(rows: &[[f32; 4]], w: Wrench, out: &mut [f32])
     requires { length rows.now ≡ length out.old }
     ensures { out.new ≡ deltas rows.now (wrench_torque w) }
 {
-    let r = sanitise(w.roll);
-    let p = sanitise(w.pitch);
-    let y = sanitise(w.yaw);
+    let [r, p, y] = [w.roll, w.pitch, w.yaw].map(sanitise);
     // (By index: of a slice that `iter_mut().zip` went through the library promises the length alone.)
     for (i, row) in rows.iter().enumerate() {
         out[i] = delta(*row, r, p, y);

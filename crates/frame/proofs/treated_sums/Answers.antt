@@ -6,7 +6,9 @@ use Prim.Native.Nat.{◌<◌}
 use native.Mathlib.Omega.{arith}
 use lib.ListN.{length}
 use lib.Ieee.{Float, nan}
+use Rattle.std.proofs.Common.{rules}
 use Rattle.general.proofs.Filled.{fill_mapped, filled_mapped}
+use Rattle.general.proofs.Mapped.{three_mapped}
 use Rattle.number.specs.Treat.{treated}
 use Rattle.rules.specs.Rows.{Row}
 use Rattle.rules.specs.Command.{roll, pitch, yaw}
@@ -29,11 +31,9 @@ loop-i-preserved c =
 pub returns : goal.returns
 returns c =
     let rows = c.args.rows.now in
+    let is =
+    three_mapped _ _ treated c.args.torque_body c.map.result nan nan (search rules) c.map.ensures.items
+    (λ x y q k. search rules) in
     c.loop-i.invariant
     ∙ filled_mapped _ rows c.args.m.now c.requires c.loop-i.i (omega arith)
-    ∙ rw (
-      c.sanitise-y.ensures,
-      c.sanitise-p.ensures,
-      c.sanitise-r.ensures,
-      c.sanitise-t.ensures,
-    ) (rule-is rows c.args.torque_body c.args.thrust)
+    ∙ rw (is.0, is.1, is.2, c.sanitise-t.ensures) (rule-is rows c.args.torque_body c.args.thrust)

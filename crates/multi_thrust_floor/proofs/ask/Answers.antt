@@ -6,7 +6,11 @@ use Prim.Native.Nat.{◌<◌}
 use native.Mathlib.Omega.{arith}
 use lib.ListN.{length}
 use lib.Ieee.{nan}
+use Rattle.std.proofs.Common.{rules}
 use Rattle.general.proofs.Filled.{fill_mapped, filled_mapped}
+use Rattle.general.proofs.Mapped.{three_mapped}
+use Rattle.number.specs.Treat.{treated}
+use Rattle.multi_thrust_floor.specs.Floored.{wrench_torque}
 use Rattle.rules.specs.Command.{deltas}
 use Rattle.multi_thrust_floor.proofs.ask.Goals as goal
 
@@ -19,10 +23,9 @@ loop-i-preserved c =
 pub returns : goal.returns
 unfolding deltas
 returns c =
+    let is =
+    three_mapped _ _ treated (wrench_torque c.args.w) c.map.result nan nan (search rules) c.map.ensures.items
+    (λ x y q k. search rules) in
     c.loop-i.invariant
     ∙ filled_mapped _ c.args.rows.now c.args.out.now c.requires c.loop-i.i (omega arith)
-    ∙ rw (
-      c.sanitise-y.ensures,
-      c.sanitise-p.ensures,
-      c.sanitise-r.ensures,
-    )
+    ∙ rw (is.0, is.1, is.2)
