@@ -4,7 +4,7 @@ import struct
 
 from mutation.mutant import Mutant
 from mutation.source import CLOSE, OPEN, after_bracket, split, type_text
-from mutation.names import type_of
+from mutation.names import element, type_of
 
 OPERATORS = {
     '+': ('-', '*'), '-': ('+', '*'), '*': ('+', '/'), '/': ('*', '-'), '%': ('/', '*'),
@@ -77,7 +77,29 @@ def passed_over(body):
             over.update(range(i, end))
         elif token.text == 'as':
             over.update((i, i + 1))
+        elif token.text == 'for':
+            end = i
+            while body[end].text != 'in':
+                end += 1
+            over.update(range(i, end))
+        elif token.text == '|' and begins_closure(body, i):
+            over.update(range(i, closure_body(body, i)))
     return over
+
+# Whether a closure begins with the bar at i, and where its code begins: behind its names and its contract.
+def begins_closure(body, i):
+    return body[i - 1].text in ('(', ',', '=')
+
+def closure_body(body, i):
+    i += 1
+    while body[i].text != '|':
+        i += 1
+    i += 1
+    while body[i].text in ('requires', 'ensures'):
+        while body[i].text != '{':
+            i += 1
+        i = after_bracket(body, i)
+    return i
 
 # The variables in scope at each token of a body, with their types: parameters, then what lets and patterns bind, each
 # up to the end of its block or arm.
@@ -92,7 +114,10 @@ def scopes(code, source, function):
             if start <= i < end:
                 scope[name] = of
         at.append(scope)
-        if token.text == 'let':
+        if token.text == '|' and begins_closure(body, i):
+            end = closure_body(body, i)
+            bound += [(end, block_end(body, end), x.text, None) for x in body[i:end] if x.kind == 'name']
+        elif token.text == 'let':
             names, end = let_of(code, source, scope, body, i)
             bound += [(end, block_end(body, end), name, of) for name, of in names]
     return at
@@ -106,17 +131,26 @@ def let_of(code, source, scope, body, i):
     equals = i
     while body[equals].text != '=':
         equals = after_bracket(body, equals) if body[equals].text in OPEN else equals + 1
+    asks = i and body[i - 1].text in ('if', 'while')  # up to the block
     end = equals
-    while body[end].text != ';' and body[end].text != 'else':
+    while body[end].text not in (('{',) if asks else (';', 'else')):
         end = after_bracket(body, end) if body[end].text in OPEN else end + 1
-    while body[end].text != ';':
+    value = body[equals + 1:end]
+    while not asks and body[end].text != ';':
         end = after_bracket(body, end) if body[end].text in OPEN else end + 1
     pattern = [x for x in body[i + 1:equals] if x.text != 'mut']
     if any(x.text == '::' for x in pattern):
         return bound_by(code, pattern), end
+    if pattern[0].text == '[':
+        return [(x.text, element(type_of(code, source, scope, value))) for x in pattern if x.kind == 'name'], end
+    if len(pattern) > 1 and pattern[1].text == '{':
+        fields = code.struct(pattern[0].text)
+        return [(part[-1].text, fields.get(part[0].text)) for part in split(pattern[2:-1], ',')], end
+    if len(pattern) > 1 and pattern[1].text == '(':
+        return [], end
     if len(pattern) > 1 and pattern[1].text == ':':
         return [(pattern[0].text, type_text(pattern[2:]))], end
-    return [(pattern[0].text, type_of(code, source, scope, body[equals + 1:end]))], end
+    return [(pattern[0].text, type_of(code, source, scope, value))], end
 
 # The names that a pattern of an enum's case binds.
 def bound_by(code, pattern):

@@ -70,8 +70,9 @@ class Source:
         self.module = os.path.basename(file)[:-3]
         self.items(tokens_of(self.text), None)
 
+    # A function of a trait's `impl` whose law says what it gives (`from_gives`) is public, and that is its contract.
     def items(self, t, owner):
-        i, public = 0, False
+        i, public, promise = 0, False, ''
         while i < len(t):
             word = t[i].text
             if word == '#':
@@ -82,9 +83,12 @@ class Source:
             elif word == 'extern':
                 i += 2
             elif word == 'ghost':
+                start = i
                 while t[i].text != ';':
-                    i += 1
+                    i = after_bracket(t, i) if t[i].text in OPEN else i + 1
                 i += 1
+                if t[start + 1].text.endswith('_gives'):
+                    promise = self.text[t[start].start:t[i - 1].start]
             elif word in ('use', 'mod', 'type'):
                 start = i + 1
                 while t[i].text != ';':
@@ -92,17 +96,18 @@ class Source:
                 if word == 'use':
                     self.uses += paths_of(t[start:i])
                 i, public = i + 1, False
-            elif word == 'struct':
-                name, end = t[i + 1].text, after_bracket(t, i + 2)
-                self.structs[name] = fields_of(t[i + 3:end - 1])
-                i, public = end, False
-            elif word == 'enum':
-                name, end = t[i + 1].text, after_bracket(t, i + 2)
-                self.enums[name] = cases_of(t[i + 3:end - 1])
-                i, public = end, False
-            elif word == 'impl':
-                end = after_bracket(t, i + 2)
-                self.items(t[i + 3:end - 1], t[i + 1].text)
+            elif word in ('struct', 'enum', 'trait', 'impl'):
+                head = i + 1
+                while t[i].text not in ('{', ';'):
+                    i = after_bracket(t, i) if t[i].text in OPEN else i + 1
+                end = i + 1 if t[i].text == ';' else after_bracket(t, i)
+                inside = t[i + 1:end - 1]
+                if word == 'struct':
+                    self.structs[t[head].text] = fields_of(inside)
+                elif word == 'enum':
+                    self.enums[t[head].text] = cases_of(inside)
+                elif word == 'impl':  # a trait's declaration has no code
+                    self.items(inside, owner_of(t[head:i]))
                 i, public = end, False
             elif word == 'const':
                 name, colon = t[i + 1].text, i + 2
@@ -115,12 +120,12 @@ class Source:
                 self.constants[name] = (type_text(t[colon + 1:equals]), public, t[equals + 1:end])
                 i, public = end + 1, False
             elif word == 'fn':
-                i = self.function(t, i, public, owner)
+                i = self.function(t, i, public or bool(promise), owner, promise)
                 public = False
             else:
                 die(f'{self.crate}/{self.file}: cannot read the item that begins with {word!r}')
 
-    def function(self, t, i, public, owner):
+    def function(self, t, i, public, owner, promise):
         name, i = t[i + 1].text, i + 2
         if t[i].text == '<':
             while t[i].text != '(':
@@ -138,7 +143,7 @@ class Source:
             while t[i].text != '{':  # a clause can have a name
                 i += 1
             i = after_bracket(t, i)
-        contract = self.text[t[start].start:t[i].start]
+        contract = self.text[t[start].start:t[i].start] or promise
         end = after_bracket(t, i)
         self.functions.append(Function(name, public, parameters, result, contract, t[i + 1:end - 1], owner))
         return end
@@ -161,8 +166,24 @@ def parameters_of(tokens, owner):
     found = []
     for part in split(tokens, ','):
         part = part[1:] if part[0].text == 'mut' else part
-        found.append(('self', owner) if part[-1].text == 'self' else (part[0].text, type_text(part[2:])))
+        if part[-1].text == 'self':
+            found.append(('self', owner))
+        elif part[0].text in OPEN:  # a pattern: an array's names have no type that an edit could use
+            found += [(x.text, None) for x in part[1:after_bracket(part, 0) - 1] if x.kind == 'name']
+        else:
+            found.append((part[0].text, type_text(part[2:])))
     return found
+
+# The type that an `impl` is of: its name, which stands after `for` where a trait is implemented.
+def owner_of(head):
+    depth, names = 0, []
+    for token in head:
+        depth += (token.text == '<') - (token.text == '>')
+        if token.text == 'for' and depth == 0:
+            names = []
+        elif token.kind == 'name' and depth == 0:
+            names.append(token.text)
+    return names[-1]
 
 # The paths that a `use` line brings, each as its names: a::{b, c::d} is two.
 def paths_of(tokens):
@@ -177,7 +198,8 @@ def fields_of(tokens):
     fields = {}
     for part in split(tokens, ','):
         part = part[1:] if part[0].text == 'pub' else part
-        fields[part[0].text] = type_text(part[2:])
+        if part[0].text != 'ghost':
+            fields[part[0].text] = type_text(part[2:])
     return fields
 
 def cases_of(tokens):
