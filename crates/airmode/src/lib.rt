@@ -47,7 +47,7 @@ fn shift(idle: f32, lo: f32, hi: f32) -> f32
 }
 
 // A motor's command held to idle..1, as `clamp_floor` does it for any floor: idle is in 0..1 here, so that the ends can
-// be looked at in turn.
+// be looked at in turn. (No type for such an idle: this and `shifted`, which hands it on, are all that ask for it.)
 fn hold(x: f32, idle: f32) -> f32
     requires { Between 0f 1f idle }
     ensures { result ≡ floor_clamp x idle }

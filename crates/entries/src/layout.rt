@@ -72,7 +72,8 @@ impl<'a> Entry<'a> {
         read_u16(self.sheet, entry_at(self.number) + 2)
     }
 
-    // Float j of the body, which begins at the offset: thrust, roll, pitch, yaw and floor are 0 to 4.
+    // Float j of the body, which begins at the offset: thrust, roll, pitch, yaw and floor are 0 to 4, a place and no
+    // kind.
     #[tactic(auto, unfolding(crate::specs::Layout::number_in))]
     pub fn float(&self, j: u8) -> f32
         ensures { result ≡ number_in self.now.sheet.now self.now.number j }

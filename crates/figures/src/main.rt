@@ -81,23 +81,13 @@ fn airmode() {
 // Thrust 0.5 and floor 0, with a yaw, which this mix drops, of 0, a NaN and +infinity.
 fn rotor_out(figure: u64, failed: usize, roll: f32, pitch: f32) {
     let q = QuadMixer::new();
-    let nan = float_of(0x7fc0_0000);
-    let infinity = float_of(0x7f80_0000);
-    print_state(
-        figure,
-        "rotor-out",
-        q.mix_rotor_out(failed, [roll, pitch, 0.0], 0.5, 0.0),
-    );
-    print_state(
-        figure,
-        "rotor-out",
-        q.mix_rotor_out(failed, [roll, pitch, nan], 0.5, 0.0),
-    );
-    print_state(
-        figure,
-        "rotor-out",
-        q.mix_rotor_out(failed, [roll, pitch, infinity], 0.5, 0.0),
-    );
+    for yaw in [0.0, float_of(0x7fc0_0000), float_of(0x7f80_0000)] {
+        print_state(
+            figure,
+            "rotor-out",
+            q.mix_rotor_out(failed, [roll, pitch, yaw], 0.5, 0.0),
+        );
+    }
 }
 
 fn any_frame() {

@@ -41,15 +41,16 @@ fn treated_sums(rows: &[[f32; 4]], torque_body: [f32; 3], thrust: f32, m: &mut [
 {
     let t = sanitise(thrust);
     let [r, p, y] = torque_body.map(sanitise);
-    // (By index: of a slice that `iter_mut().zip` went through the library promises the length alone.)
+    // (By index: after `iter_mut().zip(..)` the library promises a slice's length, and nothing of its numbers. Three
+    // crates have this loop: a public one that took the step would ask its callers that the step can be called.)
     for (i, row) in rows.iter().enumerate() {
         let sum = raw_sum(*row, t, r, p, y);
         m[i] = sanitise(sum);
     }
 }
 
-// What treated motors give by their rows: sums from +0 on, rotor by rotor. (Four names are plainer than an array of sums
-// and a fold: each line says which column it adds.)
+// What treated motors give by their rows: sums from +0 on, rotor by rotor. (Four names are plainer than an array of
+// sums and a fold: each line says which column it adds.)
 fn wrench_of(rows: &[[f32; 4]], motors: &[f32]) -> [f32; 4]
     ensures { result ≡ achieved rows.now motors.now }
 {
@@ -111,6 +112,7 @@ impl MixerN {
     }
 }
 
+// (Written out: made of `rotors`' rows and of +0 by a function of the place, it would be longer.)
 const QUAD_X: [f32; 32] = [
     1.0, -1.0, 1.0, -1.0, // M1
     1.0, -1.0, -1.0, 1.0, // M2

@@ -18,9 +18,9 @@ use wire::read_u32;
 // three digits at most, and each of the five floats has a space and eight digits: 3 + 1 + 3 + 5 * 9 and the LF.
 pub const TEXT: usize = 13515;
 
-// The text, and the place in it that was reached. A method whose name begins with `put` writes a part of what is
-// printed at that place, where it has to fit, and goes on to the place after it. (No `write!`: it may answer an Err,
-// and says nothing of the text then, where these functions cannot fail.)
+// The text, and the place in it that was reached. Its methods write a part of what is printed at that place, where it
+// has to fit, and go on to the place after it. (No `write!`: it may answer an Err, and says nothing of the text then,
+// where these functions cannot fail. No invariant for the room: each part asks for its own.)
 #[derive(Drop)]
 struct Page<'a> {
     text: &'a mut [u8; TEXT],

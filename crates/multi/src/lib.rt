@@ -89,7 +89,7 @@ fn allocate(rows: &[[f32; 4]], w: Wrench, out: &mut [f32])
     requires { length rows.now ≡ length out.old }
     ensures { out.new ≡ motors_of w rows.now }
 {
-    // (By index: of a slice that `iter_mut().zip` went through the library promises the length alone.)
+    // (By index: after `iter_mut().zip(..)` the library promises a slice's length, and nothing of its numbers.)
     for (i, row) in rows.iter().enumerate() {
         out[i] = clamp01(raw_sum(*row, w.thrust, w.roll, w.pitch, w.yaw));
     }

@@ -1,5 +1,6 @@
 // The rows of two frames, each as one run: thrust, roll, pitch, yaw, rotor by rotor. They follow the tables of
-// relay-mix-multi's `hex_x` and `octo_coax` (Apache-2.0, see NOTICE); changed: written in Rattle, each as one run.
+// relay-mix-multi's `hex_x` and `octo_coax` (Apache-2.0, see NOTICE); changed: written in Rattle, each as one run, as C
+// is handed them.
 pub const HEX_X: [f32; 24] = [
     1.0, -1.0, 0.0, 1.0, // rotor 1
     1.0, 1.0, 0.0, -1.0, // rotor 2

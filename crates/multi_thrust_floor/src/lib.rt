@@ -26,7 +26,7 @@ fn ask(rows: &[[f32; 4]], w: Wrench, out: &mut [f32])
     ensures { out.new ≡ deltas rows.now (wrench_torque w) }
 {
     let [r, p, y] = [w.roll, w.pitch, w.yaw].map(sanitise);
-    // (By index: of a slice that `iter_mut().zip` went through the library promises the length alone.)
+    // (By index: after `iter_mut().zip(..)` the library promises a slice's length, and nothing of its numbers.)
     for (i, row) in rows.iter().enumerate() {
         out[i] = delta(*row, r, p, y);
     }

@@ -109,7 +109,7 @@ pub extern "C" fn probe_scale(base: &[f32], delta: &[f32], floor: f32) -> f32
     fit::scale(base, delta, floor)
 }
 
-// A matrix is passed as its nine entries, row by row.
+// A matrix is passed as its nine entries, row by row. (`as_chunks` would lend its rows, and solve takes them by value.)
 fn matrix(a: &[f32; 9]) -> [[f32; 3]; 3]
     ensures { result ≡ rows a.now }
 {

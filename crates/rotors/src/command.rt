@@ -18,7 +18,8 @@ pub fn raw_sum(row: [f32; 4], t: f32, r: f32, p: f32, y: f32) -> f32
     row[0] * t + row[1] * r + row[2] * p + row[3] * y
 }
 
-// The collective: a limited thrust, lifted to the limited floor where it is under it.
+// The collective: a limited thrust, lifted to the limited floor where it is under it. (The mixes that have both make
+// them in two lines, and hand them on as the two numbers that the definitions of `rules` take.)
 pub fn lift(t: f32, floor: f32) -> f32
     ensures { result ≡ lifted t floor }
 {

@@ -1,4 +1,4 @@
-// What the mixes share: the rows of the quad's four rotors, how a row is taken from a run of them, and what is made of
+// What the mixes share: the rows of the quad's four rotors, the rows of a run of floats, and what is made of
 // a command before a mix fits it to the motors.
 
 #![tactic(auto)]

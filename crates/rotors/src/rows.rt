@@ -1,9 +1,10 @@
-// Rows: what thrust, roll, pitch and yaw each count for a motor.
+// Rows: what thrust, roll, pitch and yaw each count for a motor. (A row is four floats and no struct: C lends runs of
+// them, which the library cuts into arrays.)
 ghost use Rattle.std.specs.Prelude.{◌≡◌, ℕ, get_or};
 ghost use Rattle.rules.specs.Rows.{rows_of, no_row, row_at};
 
 // The quad's rows. They follow relay-mix-quad's MIXER_X (Apache-2.0, see NOTICE); changed: written in Rattle, with
-// spins in words; each row has a name, so that a function that writes the four motors out reads no table.
+// spins in words, and a name for each row.
 pub const M1: [f32; 4] = [1.0, -1.0, 1.0, -1.0]; // front-right, clockwise
 
 pub const M2: [f32; 4] = [1.0, -1.0, -1.0, 1.0]; // back-right, counter-clockwise

@@ -59,6 +59,7 @@ fn check_entries(sheet: &[u8]) -> Result<(), Refused>
     let mut end = entry_at(k);
     for number in 0..k {
         let entry = Entry { sheet, number };
+        // (Not by `?`: document 01 asks for `let .. else` here.)
         let checked = check_entry(&entry, end);
         let Ok(()) = checked else {
             return checked;

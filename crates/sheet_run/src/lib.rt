@@ -52,7 +52,8 @@ fn write_float(out: &mut [u8], at: usize, x: f32)
     write_u32(out, at, bits_of(x));
 }
 
-// The answer of a call, at the start of the output part that is lent for it: four motors, then the scale.
+// The answer of a call, at the start of the output part that is lent for it: four motors, then the scale. (A line for
+// each: after a loop over lent parts the library promises a slice's length, and nothing of its bytes.)
 fn write_answer(out: &mut [u8], q: QuadMixer)
     requires { answer_size ≤ length out.old }
     ensures { out.new ≡ write_at out.old 0 (answer_of q) }

@@ -14,6 +14,7 @@ const STDIN_FILENO: i32 = 0;
 // The number of standard output. What is bytes and not text, `io::write_all` writes there.
 pub const STDOUT_FILENO: i32 = 1;
 
+// (The room is lent, and of a fixed length: no program here has a heap.)
 // Reads until the room is full, the input ends or a read fails, and hands back what was read, the room's first part.
 pub fn read<const ROOM: usize>(room: &mut [u8; ROOM]) -> &[u8]
     ensures { length result.now ≤ ROOM }
@@ -26,6 +27,7 @@ pub fn read<const ROOM: usize>(room: &mut [u8; ROOM]) -> &[u8]
 #[derive(Clone, Copy)]
 pub struct Stdout;
 
+// No clause says what is written: `io::write_all` promises nothing, since nothing is assumed of the system's call.
 impl fmt::Write for Stdout {
     fn write_str(&mut self, text: &str) -> fmt::Result {
         if io::write_all(STDOUT_FILENO, text.as_bytes()) {

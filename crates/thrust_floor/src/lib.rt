@@ -35,7 +35,7 @@ pub fn motors(torque_body: [f32; 3], thrust: f32, floor: f32) -> MotorsAndScale<
     let low = limit(floor);
     let base = lift(limit(thrust), low);
     let d = deltas(torque_body);
-    let bases = [base; 4];
+    let bases = [base; 4]; // one for each motor, as the fit scale takes them
     let s = fit::scale(&bases, &d, low);
     let motors = d.map(|d| scaled_motor(low, base, s, d));
     MotorsAndScale { motors, scale: s }

@@ -15,7 +15,7 @@ pub fn byte(s: &[u8], at: usize) -> u8
     if at < s.len() { s[at] } else { 0 }
 }
 
-// The N bytes from a place on. A sum that is past the largest is past the end too.
+// The N bytes from a place on. A place past the largest usize is past the end too.
 fn bytes<const N: usize>(s: &[u8], at: usize) -> [u8; N]
     ensures { EachIndex result (λ k. slice_index result k ≡ slice_index s.now (at + k)) }
 {
