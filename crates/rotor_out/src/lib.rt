@@ -29,76 +29,33 @@ fn tilt(x: f32) -> f32
     clamp_in_turn(sanitise(x), -TAU_BOUND, TAU_BOUND)
 }
 
-// A motor's command where no rotor is lost.
-fn tilt_motor(floor: f32, t: f32, r: f32, p: f32, row: [f32; 4]) -> f32
-    ensures { result ≡ tilt_motor floor t r p row }
-{
-    clamp_floor(sanitise(t + row[1] * r + row[2] * p), floor)
-}
-
-fn none_lost(floor: f32, t: f32, r: f32, p: f32) -> [f32; 4]
-    ensures { result ≡ map (tilt_motor floor t r p) quad_rows }
-{
-    array::from_fn(|i| tilt_motor(floor, t, r, p, MIXER_X[i]))
-}
-
-// What the three healthy rotors have to give together: their sum, their roll, their pitch.
-fn equations(failed: usize) -> [[f32; 3]; 3]
-    requires { failed < 4 }
-    ensures { result ≡ equations failed }
-{
-    let rows = MIXER_X;
-    let a = rows[(failed + 1) % 4];
-    let b = rows[(failed + 2) % 4];
-    let c = rows[(failed + 3) % 4];
-    [[1.0, 1.0, 1.0], [a[1], b[1], c[1]], [a[2], b[2], c[2]]]
-}
-
-// The healthy rotors' three numbers at their places, the lost one's being 0.
-fn placed(failed: usize, x: [f32; 3]) -> [f32; 4]
-    requires { failed < 4 }
-    ensures { result ≡ placed failed x }
-{
-    let mut v: [f32; 4] = [0.0; 4];
-    v[(failed + 1) % 4] = x[0];
-    v[(failed + 2) % 4] = x[1];
-    v[(failed + 3) % 4] = x[2];
-    v
-}
-
-// The two parts of each rotor's command: what gives three times the thrust and no moment, and what gives roll and pitch
-// and no thrust.
+// A command as this mix takes it.
 #[derive(Clone, Copy)]
-struct Split {
-    base: [f32; 4],
-    delta: [f32; 4],
+struct Asked {
+    floor: f32,
+    thrust: f32,
+    roll: f32,
+    pitch: f32,
+    ghost finite_floor: { T (finite floor) },
 }
 
-// Each lost rotor has a copy of its own, so that the compiler solves beforehand as much of the equations as no command
-// changes. Where they are not solved, the three numbers are +0.
-fn split_of<const FAILED: usize>(t: f32, r: f32, p: f32) -> Split
-    requires { FAILED < 4 }
-    ensures { result ≡ record { base = base_without FAILED t; delta = delta_without FAILED r p } }
+// A motor's command where no rotor is lost.
+fn tilt_motor(asked: Asked, row: [f32; 4]) -> f32
+    ensures { result ≡ tilt_motor asked.floor asked.thrust asked.roll asked.pitch row }
 {
-    let a = equations(FAILED);
-    let base = solve3(a, [3.0 * t, 0.0, 0.0]).unwrap_or([0.0; 3]);
-    let delta = solve3(a, [0.0, r, p]).unwrap_or([0.0; 3]);
-    Split {
-        base: placed(FAILED, base),
-        delta: placed(FAILED, delta),
-    }
+    let Asked {
+        floor,
+        thrust,
+        roll,
+        pitch,
+    } = asked;
+    clamp_floor(sanitise(thrust + row[1] * roll + row[2] * pitch), floor)
 }
 
-fn split_without(failed: usize, t: f32, r: f32, p: f32) -> Split
-    requires { failed < 4 }
-    ensures { result ≡ record { base = base_without failed t; delta = delta_without failed r p } }
+fn none_lost(asked: Asked) -> [f32; 4]
+    ensures { result ≡ map (tilt_motor asked.floor asked.thrust asked.roll asked.pitch) quad_rows }
 {
-    match failed {
-        0 => split_of::<0>(t, r, p),
-        1 => split_of::<1>(t, r, p),
-        2 => split_of::<2>(t, r, p),
-        _ => split_of::<3>(t, r, p),
-    }
+    array::from_fn(|i| tilt_motor(asked, MIXER_X[i]))
 }
 
 // What the floor counts for each rotor, for each lost one: nothing for the lost rotor, whose base and delta are 0, so
@@ -117,26 +74,70 @@ fn motor_without(counts: f32, floor: f32, s: f32, b: f32, d: f32) -> f32
     clamp_floor(sanitise(b + s * d), counts * floor)
 }
 
-fn motors_without(failed: usize, floor: f32, b: [f32; 4], d: [f32; 4]) -> [f32; 4]
-    requires { (failed < 4) × T (finite floor) × (get_or b failed nan ≡ 0f) × (get_or d failed nan ≡ 0f) }
-    ensures { result ≡ motors_without failed floor b d }
-{
-    let s = fit::scale(&b, &d, floor);
-    let counts = COUNTS[failed];
-    array::from_fn(|i| motor_without(counts[i], floor, s, b[i], d[i]))
+// The lost rotor, by its number. Each has a copy of its own of what stands below, so that the compiler solves
+// beforehand as much of the equations as no command changes.
+#[derive(Clone, Copy)]
+struct LostRotor<const FAILED: usize> {
+    ghost is_one: { FAILED < 4 },
 }
 
-fn allotted(failed: usize, floor: f32, t: f32, r: f32, p: f32) -> [f32; 4]
-    requires { T (finite floor) }
-    ensures { result ≡ cond (ltb failed 4)
-        (motors_without failed floor (base_without failed t) (delta_without failed r p))
-        (map (tilt_motor floor t r p) quad_rows) }
-{
-    if failed >= 4 {
-        return none_lost(floor, t, r, p);
+impl<const FAILED: usize> LostRotor<FAILED> {
+    // What the three healthy rotors have to give together: their sum, their roll, their pitch.
+    fn equations(self) -> [[f32; 3]; 3]
+        ensures { result ≡ equations FAILED }
+    {
+        let rows = MIXER_X;
+        let a = rows[(FAILED + 1) % 4];
+        let b = rows[(FAILED + 2) % 4];
+        let c = rows[(FAILED + 3) % 4];
+        [[1.0, 1.0, 1.0], [a[1], b[1], c[1]], [a[2], b[2], c[2]]]
     }
-    let Split { base, delta } = split_without(failed, t, r, p);
-    motors_without(failed, floor, base, delta)
+
+    // The healthy rotors' three numbers at their places, the lost one's being 0.
+    fn placed(self, x: [f32; 3]) -> [f32; 4]
+        ensures { result ≡ placed FAILED x }
+    {
+        let mut v: [f32; 4] = [0.0; 4];
+        v[(FAILED + 1) % 4] = x[0];
+        v[(FAILED + 2) % 4] = x[1];
+        v[(FAILED + 3) % 4] = x[2];
+        v
+    }
+
+    // The part of each rotor's command that gives three times the thrust and no moment, and the part that gives roll
+    // and pitch and no thrust, as much of it as fits. Where the equations are not solved, the three numbers are +0.
+    fn motors(self, asked: Asked) -> [f32; 4]
+        ensures { result ≡ motors_without FAILED asked.floor
+            (base_without FAILED asked.thrust) (delta_without FAILED asked.roll asked.pitch) }
+    {
+        let Asked {
+            floor,
+            thrust,
+            roll,
+            pitch,
+        } = asked;
+        let a = self.equations();
+        let base = self.placed(solve3(a, [3.0 * thrust, 0.0, 0.0]).unwrap_or([0.0; 3]));
+        let delta = self.placed(solve3(a, [0.0, roll, pitch]).unwrap_or([0.0; 3]));
+        let s = fit::scale(&base, &delta, floor);
+        let counts = COUNTS[FAILED];
+        array::from_fn(|i| motor_without(counts[i], floor, s, base[i], delta[i]))
+    }
+}
+
+fn allotted(failed: usize, asked: Asked) -> [f32; 4]
+    ensures { result ≡ cond (ltb failed 4)
+        (motors_without failed asked.floor
+        (base_without failed asked.thrust) (delta_without failed asked.roll asked.pitch))
+        (map (tilt_motor asked.floor asked.thrust asked.roll asked.pitch) quad_rows) }
+{
+    match failed {
+        0 => LostRotor::<0> {}.motors(asked),
+        1 => LostRotor::<1> {}.motors(asked),
+        2 => LostRotor::<2> {}.motors(asked),
+        3 => LostRotor::<3> {}.motors(asked),
+        _ => none_lost(asked),
+    }
 }
 
 // Rotor `failed`, 0 to 3, is lost and commanded +0; the other three share thrust, roll and pitch, and yaw is given up.
@@ -144,9 +145,11 @@ fn allotted(failed: usize, floor: f32, t: f32, r: f32, p: f32) -> [f32; 4]
 pub fn motors(failed: usize, torque_body: [f32; 3], thrust: f32, floor: f32) -> [f32; 4]
     ensures { result ≡ rotor_out_motors failed torque_body thrust floor }
 {
-    let t = limit(thrust);
-    let low = limit(floor);
-    let r = tilt(torque_body[0]);
-    let p = tilt(torque_body[1]);
-    allotted(failed, low, t, r, p)
+    let asked = Asked {
+        floor: limit(floor),
+        thrust: limit(thrust),
+        roll: tilt(torque_body[0]),
+        pitch: tilt(torque_body[1]),
+    };
+    allotted(failed, asked)
 }

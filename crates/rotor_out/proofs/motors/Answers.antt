@@ -7,18 +7,21 @@ use Rattle.rules.specs.RotorOut.{rotor_out_motors}
 use Rattle.rules.proofs.Clamp.{limited_floor}
 use Rattle.rotor_out.proofs.motors.Goals as goal
 
-pub allotted-requires : goal.allotted-requires
-allotted-requires c =
-    subst (λ (x : Float). T (finite x)) (sym c.limit-low.ensures)
-    (limited_floor c.args.floor (rw c.well_formed.1.1.1.0.1 tt)).finite.finite
+pub invariant_of-asked : goal.invariant_of-asked
+invariant_of-asked c =
+    record {
+      finite_floor =
+          subst (λ (x : Float). T (finite x)) (sym c.limit.ensures)
+          (limited_floor c.args.floor (rw c.well_formed.1.1.1.0.1 tt)).finite.finite;
+    }
 
 pub returns : goal.returns
 unfolding rotor_out_motors
 returns c =
     simp (
       c.allotted.ensures,
-      c.tilt-p.ensures,
-      c.tilt-r.ensures,
-      c.limit-low.ensures,
-      c.limit-t.ensures,
+      c.tilt-2.ensures,
+      c.tilt.ensures,
+      c.limit-2.ensures,
+      c.limit.ensures,
     )

@@ -13,8 +13,8 @@ use Rattle.rotor_out.proofs.none_lost.Goals as goal
 pub returns : goal.returns
 unfolding quad_rows
 returns c =
-    let args = c.args in
-    let m = λ (i : ℕ). tilt_motor args.floor args.t args.r args.p (get_or quad_rows i []) in
+    let asked = c.args.asked in
+    let m = λ (i : ℕ). tilt_motor asked.floor asked.thrust asked.roll asked.pitch (get_or quad_rows i []) in
     let first : get_or c.from_fn.result 0 nan ≡ m 0 = search rules in
     let second : get_or c.from_fn.result 1 nan ≡ m 1 = search rules in
     let third : get_or c.from_fn.result 2 nan ≡ m 2 = search rules in
