@@ -29,7 +29,7 @@ fn tilt(x: f32) -> f32
     clamp_in_turn(sanitise(x), -TAU_BOUND, TAU_BOUND)
 }
 
-// A command as this mix takes it.
+// A command as this mix takes it: yaw is given up.
 #[derive(Clone, Copy)]
 struct Asked {
     floor: f32,
@@ -43,13 +43,10 @@ struct Asked {
 fn tilt_motor(asked: Asked, row: [f32; 4]) -> f32
     ensures { result ≡ tilt_motor asked.floor asked.thrust asked.roll asked.pitch row }
 {
-    let Asked {
-        floor,
-        thrust,
-        roll,
-        pitch,
-    } = asked;
-    clamp_floor(sanitise(thrust + row[1] * roll + row[2] * pitch), floor)
+    clamp_floor(
+        sanitise(asked.thrust + row[1] * asked.roll + row[2] * asked.pitch),
+        asked.floor,
+    )
 }
 
 fn none_lost(asked: Asked) -> [f32; 4]
@@ -59,7 +56,7 @@ fn none_lost(asked: Asked) -> [f32; 4]
 }
 
 // What the floor counts for each rotor, for each lost one: nothing for the lost rotor, whose base and delta are 0, so
-// that it ends at +0. A choice by the rotor's number would come to the same, and cost the compiler more.
+// that it ends at +0. A choice by the rotor's number, while that was a variable, cost the compiler more.
 const COUNTS: [[f32; 4]; 4] = [
     [0.0, 1.0, 1.0, 1.0],
     [1.0, 0.0, 1.0, 1.0],
@@ -104,21 +101,16 @@ impl<const FAILED: usize> LostRotor<FAILED> {
         v
     }
 
-    // The part of each rotor's command that gives three times the thrust and no moment, and the part that gives roll
-    // and pitch and no thrust, as much of it as fits. Where the equations are not solved, the three numbers are +0.
+    // To the part of each rotor's command that gives three times the thrust and no moment comes as much as fits of the
+    // part that gives roll and pitch and no thrust. Where the equations are not solved, the three numbers are +0.
     fn motors(self, asked: Asked) -> [f32; 4]
         ensures { result ≡ motors_without FAILED asked.floor
             (base_without FAILED asked.thrust) (delta_without FAILED asked.roll asked.pitch) }
     {
-        let Asked {
-            floor,
-            thrust,
-            roll,
-            pitch,
-        } = asked;
         let a = self.equations();
-        let base = self.placed(solve3(a, [3.0 * thrust, 0.0, 0.0]).unwrap_or([0.0; 3]));
-        let delta = self.placed(solve3(a, [0.0, roll, pitch]).unwrap_or([0.0; 3]));
+        let base = self.placed(solve3(a, [3.0 * asked.thrust, 0.0, 0.0]).unwrap_or([0.0; 3]));
+        let delta = self.placed(solve3(a, [0.0, asked.roll, asked.pitch]).unwrap_or([0.0; 3]));
+        let floor = asked.floor;
         let s = fit::scale(&base, &delta, floor);
         let counts = COUNTS[FAILED];
         array::from_fn(|i| motor_without(counts[i], floor, s, base[i], delta[i]))

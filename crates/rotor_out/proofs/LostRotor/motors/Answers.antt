@@ -1,6 +1,6 @@
--- `LostRotor::motors` meets its contract: both parts solve one rotor's equations, and what is found, or three +0, is put at
--- the healthy rotors' places; the four motors are those of `motors_without`, at the fit scale, by `each_counted`.
--- Assumes nothing.
+-- `LostRotor::motors` meets its contract: both parts solve one rotor's equations, and what is found, or three +0, is
+-- put at the healthy rotors' places; the four motors are those of `motors_without`, at the fit scale, by
+-- `each_counted`. Assumes nothing.
 use mathlib.Core.Path.{◌≡◌, ◌∙◌, refl}
 use Prim.Native.Nat.{ℕ}
 use lib.ListN.{get_or}
