@@ -18,10 +18,11 @@ FACT = re.compile('|'.join((
 SHAPE = re.compile(r'code\.function|prog\.Wp\.|(expected|found|but this has) type `\(c : |Need-')
 
 # The first error with the lines that belong to it, those passed over that only say that something they use is refused;
-# where there is none, the first note.
+# where there is none, the first note that is not about the name of a step, which the code as it stands has too.
 def first_error(lines):
     errors = [i for i, line in enumerate(lines) if re.match(r'\S+: error', line) and 'was not admitted' not in line]
-    begins = errors or [i for i, line in enumerate(lines) if line.startswith('note: ')] or [0]
+    notes = [i for i, line in enumerate(lines) if line.startswith('note: ') and "is rattle's own name" not in line]
+    begins = errors or notes or [0]
     end = begins[0] + 1
     while end < len(lines) and lines[end].startswith(' '):
         end += 1
