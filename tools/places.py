@@ -65,7 +65,8 @@ for file in sorted(root.glob("crates/*/src/**/*.rt")):
         code = line.split("//")[0]
         if re.search(r"\benum \w|: bool,|: true,|: false,", code):
             place(1, where, code)
-        if re.search(r"\bfn .*\b(kind|operation|code|number|verdict|refus\w*): u\d|\bfn .*(number|refus)\w*\(.*-> u\d", code):
+        if re.search(r"\bfn .*\b(kind|operation|code|number|verdict|refus\w*): u\d|"
+                     r"\bfn .*(number|refus)\w*\(.*-> u\d", code):
             place(1, where, code)
         if re.search(r"\bwhile\b|\b[ij] \+= 1", code):
             place(3, where, code)

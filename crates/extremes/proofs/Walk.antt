@@ -30,7 +30,8 @@ module _ (better : Float → Float → Float) where
   best_of_some x xs = walk_folds x xs
 
   -- what a whole run of `reduce` gives, or +0 where it had no number, is the best of what it ran over
-  module _ {S F : Type 0} {steps : S → Option Float → S → Type 0} (g : Mut F (Float × (Float × Unit {0})) Float) (f : F) where
+  module _ {S F : Type 0} {steps : S → Option Float → S → Type 0} (g : Mut F (Float × (Float × Unit {0})) Float)
+      (f : F) where
     pub reduced_is_best : ActsAsOnTwo g f better → (p : Run steps) (xs : List Float) → p.items ≡ xs
         → (r : Option Float) → MatchOption r (p.len ≡ 0) (IsReduceRun p g f) → unwrap_or r 0f ≡ best better xs
     reduced_is_best acts p xs is None h = best_of_none xs (omega (arith, p.long, ap length is))

@@ -17,6 +17,6 @@ number_of Difference = 2
 number_of Product = 3
 number_of Quotient = 4
 
--- A number gives the operation that has it; none from 1 to 4 gives none.
+-- A number gives the operation that has it, and one outside 1 to 4 gives none.
 abbrev pub Numbered : ℕ → Result Operation NoOperation → Type 0
 Numbered n r = MatchResult r (λ operation. number_of operation ≡ n) (λ none. (none.0 ≡ n) × ((1 ≤ n) × (n ≤ 4) → ⊥))

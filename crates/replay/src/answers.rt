@@ -18,8 +18,8 @@ pub(crate) type Words = [u32; WORDS];
 
 // Our answer to a record, from its head, its inputs and the state that the record before it left, or none where no kind
 // has the head. A head is 0xKKAA_IIII: the kind, how many words the answers take and how many the inputs take; it is
-// matched as the list has it, since a name for each would be a second list. `float_of` has read the inputs and `bits_of`
-// writes the answers, so kind 4, the round trip from bits to bits, has no more to do.
+// matched as the list has it, since a name for each would be a second list. `float_of` has read the inputs and
+// `bits_of` writes the answers, so kind 4, the round trip from bits to bits, has no more to do.
 pub(crate) fn answer(head: u32, x: &[f32; INPUTS], state: &mut QuadMixer) -> Option<Words> {
     number(head, x)
         .or_else(|| frames::answer(head, x))

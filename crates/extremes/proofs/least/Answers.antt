@@ -1,5 +1,5 @@
--- `extremes::least` meets its contract: the run of `reduce` goes over the numbers of the slice, and what it gives is the
--- best of these. Assumes nothing.
+-- `extremes::least` meets its contract: the run of `reduce` goes over the numbers of the slice, and what it gives is
+-- the best of these. Assumes nothing.
 use mathlib.Core.Path.{◌∙◌}
 use Rattle.std.proofs.Common.{rules}
 use Rattle.rules.specs.Extremes.{smaller}

@@ -19,4 +19,5 @@ returns c =
     let length : length args.drp ≡ 4 = omega arith in
     c.scale.ensures.is
     ∙ ap (λ (bases : List Float). fit_scale args.floor bases args.dy)
-    (mapped _ _ (λ (rp : Float). args.base +f rp) 4 args.drp _ length c.map-base_rp.ensures.items (λ x z q k. search rules))
+    (mapped _ _ (λ (rp : Float). args.base +f rp) 4 args.drp _ length c.map-base_rp.ensures.items
+    (λ x z q k. search rules))

@@ -25,6 +25,7 @@ returns c =
     let args = c.args in
     fold_from_yields_List _ (λ (t : Float) (p : Row × Float). t +f get_or p.0 args.column nan *f p.1) 0f _
     c.fold.ensures.ran
-    (YieldsList-from_zip (YieldsList-from_slice quad_rows (search rules)) (YieldsList-from_slice args.motors (search rules)))
+    (YieldsList-from_zip (YieldsList-from_slice quad_rows (search rules))
+    (YieldsList-from_slice args.motors (search rules)))
     (λ a x b q k. search rules)
     ∙ folds (λ (row : Row). get_or row args.column nan) 0f quad_rows args.motors
