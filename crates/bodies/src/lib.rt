@@ -9,7 +9,7 @@ ghost use Rattle.bodies.specs.Place.{place_of};
 use entries::layout::{Entry, body_size, count};
 use sheet::check;
 
-// A part of a sheet: where it begins, and how many bytes it has.
+// A part of a sheet: where it begins, and how many bytes it has. (C is handed these two numbers: decision 63.)
 #[derive(Clone, Copy)]
 pub struct Part {
     pub at: usize,

@@ -14,7 +14,7 @@ pub enum Case {
     RotorOut(usize),
 }
 
-// The rotor number that stands for all that name none.
+// The rotor number that stands for all that name none. (No Option: document 01 has a number, and the mix takes it.)
 pub const NONE_LOST: usize = 4;
 
 // The kind and the rotor byte choose the case, or the refusal.

@@ -14,7 +14,7 @@ use number::{SMALL, pick};
 
 // The limit that a motor with base b and delta d puts on the scale, or 1 where the delta is too small to put one. The
 // room that the delta uses up is that to the ceiling or that to the floor; dividing it by the delta's size is one
-// quotient for both signs.
+// quotient for both signs. (No Option for none: without a branch the compiler takes four motors at once.)
 fn limit_of(b: f32, d: f32, floor: f32) -> f32
     ensures { result ≡ limit_of floor b d }
 {
@@ -62,6 +62,7 @@ fn smallest(base: &[f32], delta: &[f32], floor: f32) -> f32
 // caller's floor clamp. Where the two slices differ in length, the walk goes as far as the shorter one.
 //
 // Most commands of a flight fit, and then no limit is under 1: that is seen first, since it is quick.
+// (Two slices, as the Rust has two arrays: no caller has pairs, each has bases and deltas as lists of their own.)
 pub fn scale(base: &[f32], delta: &[f32], floor: f32) -> f32
     ensures { Scaled floor base.now delta.now result }
 {

@@ -25,6 +25,7 @@ use rotors::rows::rows_of;
 pub const MAX_ROTORS: usize = 8;
 
 // The matrix, and how many rotors there are. The count is for the caller: the mix uses all eight rows, whatever it is.
+// (One run of 32 floats, as document 01 has it and as C lends it; the count beside it is the Rust's.)
 // (Room for eight rows and a count beside it, since C passes a mixer as these two: decision 62.)
 #[repr(C)]
 #[derive(Clone, Copy)]

@@ -20,7 +20,8 @@ pub const TEXT: usize = 13515;
 
 // The text, and the place in it that was reached. Its methods write a part of what is printed at that place, where it
 // has to fit, and go on to the place after it. (No `write!`: it may answer an Err, and says nothing of the text then,
-// where these functions cannot fail. No invariant for the room: each part asks for its own.)
+// where these functions cannot fail. No String: no heap and fixed memory are a rule of the project. No invariant for
+// the room: each part asks for its own.)
 #[derive(Drop)]
 struct Page<'a> {
     text: &'a mut [u8; TEXT],

@@ -4,6 +4,8 @@
 // takes the state and gives the new one in the place of changing it where it stands; how each mix comes to its motors
 // stands in a crate of its own.
 //
+// A mix takes its numbers one by one, since these are the Rust's own arguments, by which C and README call it.
+//
 // What each mix gives is said in specs/Mixes: the motors and the promises by the crate `rules`, and the recorded scale.
 // A state keeps the torque that its motors give, beside what the Rust's has (specs/State).
 

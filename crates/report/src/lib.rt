@@ -12,8 +12,8 @@ use sheet_run::run;
 // Room for the answers of 64 entries, the most that a sheet has, so that it is never refused for a short output.
 const ANSWERS: usize = 1280;
 
-// Runs a sheet from a fresh state. The lines that are printed go to the start of the text, which is lent, as no library
-// here has a heap; answers how many bytes they are.
+// Runs a sheet from a fresh state. The lines that are printed go to the start of the text, which is lent and no
+// String, by the project's rule of no heap and fixed memory; answers how many bytes they are.
 pub fn text_of(sheet: &[u8], text: &mut [u8; TEXT]) -> usize
     ensures { Written (printed sheet.now) text.old text.new result }
 {

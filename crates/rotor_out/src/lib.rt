@@ -49,6 +49,7 @@ fn tilt_motor(asked: Asked, row: [f32; 4]) -> f32
     )
 }
 
+// (By place: the closure of a `map` over the rows would need a clause of its own, longer than this.)
 fn none_lost(asked: Asked) -> [f32; 4]
     ensures { result ≡ map (tilt_motor asked.floor asked.thrust asked.roll asked.pitch) quad_rows }
 {
@@ -79,7 +80,8 @@ struct LostRotor<const FAILED: usize> {
 }
 
 impl<const FAILED: usize> LostRotor<FAILED> {
-    // What the three healthy rotors have to give together: their sum, their roll, their pitch.
+    // What the three healthy rotors have to give together: their sum, their roll, their pitch. (A line for each of the
+    // three, here and below, as document 01 names them.)
     fn equations(self) -> [[f32; 3]; 3]
         ensures { result ≡ equations FAILED }
     {

@@ -21,7 +21,7 @@ pub fn det3(a: [[f32; 3]; 3]) -> f32
         + b[2] * (c[0] * d[1] - c[1] * d[0])
 }
 
-// |x| < SMALL
+// |x| < SMALL, from both sides: the library has no size of an f32.
 fn is_small(x: f32) -> bool
     ensures { result ≡ lt (absolute x) small }
 {
@@ -35,7 +35,7 @@ fn is_singular(det: f32) -> bool
     !is_finite(det) || is_small(det)
 }
 
-// a with column k replaced by rhs.
+// a with column k replaced by rhs. (By index: after `iter_mut().zip(..)` the library promises nothing of the numbers.)
 fn with_column(a: [[f32; 3]; 3], k: usize, rhs: [f32; 3]) -> [[f32; 3]; 3]
     requires { k < 3 }
     ensures { result ≡ replaced a k rhs }

@@ -22,7 +22,8 @@ fn column_sum(column: usize, motors: [f32; 4]) -> f32
         .fold(0.0, |s, (row, m)| s + row[column] * *m)
 }
 
-// Roll, pitch and yaw sums of the motors by the rows.
+// Roll, pitch and yaw sums of the motors by the rows. (Three calls are plainer than a closure over the columns, which
+// would have to ask that a column is under 4.)
 pub fn torque_of(motors: [f32; 4]) -> [f32; 3]
     ensures { result ≡ torque_of quad_rows motors }
 {
