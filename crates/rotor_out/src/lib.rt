@@ -5,8 +5,7 @@
 
 #![tactic(auto)]
 
-ghost use Rattle.std.specs.Prelude.{◌≡◌, cond, map, ◌<◌, T, ltb, get_or};
-ghost use Rattle.std.specs.Float.{nan};
+ghost use Rattle.std.specs.Prelude.{◌≡◌, cond, map, ◌<◌, T, ltb};
 ghost use Rattle.std.specs.Float.Ieee.Scale.{finite};
 ghost use Rattle.binary32.specs.Arithmetic.{◌+f◌, ◌*f◌, 0f};
 ghost use Rattle.number.specs.Treat.{treated, floor_clamp};
