@@ -63,7 +63,7 @@ fn scale(x: &[f32], motors: usize) -> f32
     fit::scale(&x[1..middle], &x[middle..end], x[0])
 }
 
-// The first nine inputs, as three rows.
+// The first nine inputs, as three rows: one expression, as `probes` has it of its own nine.
 fn matrix(x: &[f32; INPUTS]) -> [[f32; 3]; 3] {
     [[x[0], x[1], x[2]], [x[3], x[4], x[5]], [x[6], x[7], x[8]]]
 }

@@ -32,7 +32,8 @@ fn read(state: QuadMixer) -> Words {
     words_of(&[m1, m2, m3, m4, state.last_torque_scale(), roll, pitch, yaw])
 }
 
-// The inputs are the state itself: the motors, the scale and the sums.
+// The inputs are the state itself: the motors, the scale and the sums. (`sheets` has the like: a conversion for two
+// programs would be a promise of `quad`.)
 fn set(x: &[f32; INPUTS]) -> QuadMixer {
     QuadMixer {
         last_motors: motors(x),

@@ -1,5 +1,6 @@
 // Bytes, and numbers of two and four bytes, little-endian, read from a lent slice and written to one, at any
-// place. A byte past the end is read as 0. Bytes that do not all fit at their place are not written.
+// place. A byte past the end is read as 0. Bytes that do not all fit at their place are not written. (A slice and a
+// place are two arguments, as C compares them: a type for both would be taken apart at once.)
 
 #![tactic(auto)]
 
