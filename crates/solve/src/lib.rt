@@ -1,6 +1,6 @@
 // Follows relay-mix-quad's det3 and solve3 (Apache-2.0, see NOTICE); changed: written in Rattle, with contracts; an
-// unknown is a function of its own, and so is a matrix with a column replaced; the size of the determinant is compared
-// from both sides, with no absolute value made.
+// unknown is a function of its own, and so is a matrix with a column replaced; the size of the determinant is the
+// library's `abs`, in the place of a mask.
 
 #![tactic(auto)]
 
@@ -21,11 +21,11 @@ pub fn det3(a: [[f32; 3]; 3]) -> f32
         + b[2] * (c[0] * d[1] - c[1] * d[0])
 }
 
-// |x| < SMALL, from both sides: the library has no size of an f32.
+// |x| < SMALL
 fn is_small(x: f32) -> bool
     ensures { result ≡ lt (absolute x) small }
 {
-    x < SMALL && -SMALL < x
+    x.abs() < SMALL
 }
 
 // Whether det is no determinant to divide by.
