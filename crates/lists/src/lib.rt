@@ -69,3 +69,44 @@ fn is_counted(list: &[u8], room: usize, records: usize) -> bool
 {
     HEAD <= list.len() && list.len() < room && records == read_u32(list, 0) as usize
 }
+
+#[cfg(test)]
+mod tests {
+    use super::*;
+    use std::test::Fail;
+
+    // Records of one byte, of which those are right that are 0.
+    #[derive(Drop)]
+    struct Zeros;
+
+    impl Answers for Zeros {
+        type Difference = u8;
+
+        const SHOWN: usize = 0;
+
+        fn size_of(_list: &[u8]) -> usize {
+            1
+        }
+
+        fn compare(&mut self, record: &[u8]) -> Result<(), u8> {
+            match record.first() {
+                Some(0) => Ok(()),
+                _ => Err(1),
+            }
+        }
+    }
+
+    // A walk that compares nothing would keep the clauses: each record is compared, right or wrong.
+    #[test]
+    fn each_record_is_compared(rt: HostRuntime) -> Result<(), Fail> {
+        let right = compare_list(&[3, 0, 0, 0, 0, 0, 0], 100, Zeros);
+        assert_eq!(rt; right.compared, 3);
+        assert_eq!(rt; right.differ, 0);
+        let wrong = compare_list(&[3, 0, 0, 0, 7, 0, 7], 100, Zeros);
+        assert_eq!(rt; wrong.compared, 3);
+        assert_eq!(rt; wrong.differ, 2);
+        let cut = compare_list(&[3, 0, 0, 0, 0, 0], 100, Zeros);
+        assert_eq!(rt; cut.differ, 1);
+        Ok(())
+    }
+}
