@@ -1,6 +1,7 @@
 -- The size of a number is under a limit exactly where the number lies between the limit's negative and the limit: two
 -- comparisons in place of an absolute value. It holds for every number, NaN and the infinities too, and for every limit
--- that is finite and not negative. Assumes nothing.
+-- that is finite and not negative. And the absolute value is the number with a positive sign, which is what the
+-- library's `abs` makes. Assumes nothing.
 use mathlib.Core.Path.{◌≡◌, refl, sym}
 use mathlib.Core.Bool.{Bool, true, false, ◌&&◌}
 use Prim.Native.Nat.{ℕ, ◌+◌, ◌*◌}
@@ -10,6 +11,7 @@ use borrow.Author.Tests.{ltb-true, lt-ltb}
 use lib.Dec.{ltb}
 use lib.IntN.{ℤ}
 use lib.Ieee.{Float, nan, inf, fin, up, down, lt, neg, of_bits}
+use Rattle.std.specs.Float.{float_with_sign}
 use Rattle.binary32.specs.Arithmetic.{absolute, small}
 
 -- ---- a finite number is compared with one limit by its size, and with the other by 0 < a + b, which a < b implies
@@ -42,3 +44,11 @@ absolute_below (fin false m e) n d =
 pub absolute_below_small : (x : Float) → lt (absolute x) small ≡ lt x small && lt (neg small) x
 unfolding of_bits
 absolute_below_small x = absolute_below x _ _
+
+-- ---- the absolute value by its sign
+
+pub unsigned_is : (x : Float) → float_with_sign false x ≡ absolute x
+unfolding float_with_sign absolute
+unsigned_is nan = refl
+unsigned_is (inf s) = refl
+unsigned_is (fin s m e) = refl

@@ -20,7 +20,7 @@ module _ (better : Float → Float → Float) where
   walk_folds held [] = refl
   walk_folds held (x ∷ xs) = walk_folds (better held x) xs
 
-  best_of_none : (xs : List Float) → length xs ≡ 0 → 0f ≡ best better xs
+  pub best_of_none : (xs : List Float) → length xs ≡ 0 → 0f ≡ best better xs
   unfolding best
   best_of_none [] h = refl
   best_of_none (x ∷ xs) h = let no : ⊥ = omega arith in absurd no

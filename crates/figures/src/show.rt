@@ -4,8 +4,9 @@ use quad::QuadMixer;
 use std::fmt;
 use std::fmt::Write;
 use streams::Stdout;
+use text::write_hex;
 
-// A line: the figure's number, the mix, and its floats.
+// A line: the figure's number, the mix, and its floats, each with the space before it as one piece.
 #[derive(Clone, Copy)]
 struct Line<'a> {
     figure: u64,
@@ -17,7 +18,9 @@ impl<'a> fmt::Display for Line<'a> {
     fn fmt<W: fmt::Write>(&self, f: &mut fmt::Formatter<W>) -> fmt::Result {
         write!(f, "{} {}", self.figure, self.mix)?;
         for x in self.floats {
-            write!(f, " {:08x}", bits_of(*x))?;
+            let mut word = [b' '; 9];
+            write_hex(&mut word, 1, bits_of(*x));
+            f.write_str(str::from_utf8(&word).unwrap_or(""))?;
         }
         Ok(())
     }

@@ -3,7 +3,7 @@
 
 #![tactic(auto)]
 
-ghost use Rattle.std.specs.Prelude.{◌≡◌, ◌+◌, ◌<◌, ◌≤◌, IsTrue};
+ghost use Rattle.std.specs.Prelude.{◌≡◌, ◌+◌, ◌-◌, ◌*◌, ◌<◌, ◌≤◌, ℕ, length, IsTrue};
 ghost use Rattle.lists.specs.Counted.{Counted};
 
 use std::fmt;
@@ -16,15 +16,19 @@ const HEAD: usize = 4;
 
 // What the records of a list are held to: our answers.
 pub trait Answers {
-    // What is printed of a record that differs, after its number.
+    // What is printed of a record that differs, after its number: the rest of the line, with its end.
     type Difference: fmt::Display + Drop;
 
     // How many of the differences are shown.
     const SHOWN: usize;
 
+    // How many bytes a record has at the least.
+    ghost least: { ℕ };
+
     // How many bytes the record has that begins here.
     fn size_of(list: &[u8]) -> usize
-        ensures { 0 < result };
+        ensures some { 0 < result }
+        ensures least { least ≤ result };
 
     // Whether our answer is the record's, and how it differs if not.
     fn compare(&mut self, record: &[u8]) -> Result<(), Self::Difference>;
@@ -42,6 +46,7 @@ pub struct Tally {
 // fills the room, as it may have more to come.
 pub fn compare_list<A: Answers + Drop>(list: &[u8], room: usize, mut ours: A) -> Tally
     ensures few { result.differ ≤ result.compared + 1 }
+    ensures fits { A.least * result.compared ≤ length list.now - 4 }
     ensures whole { result.differ ≡ 0 → Counted room list.now result.compared }
 {
     let mut compared = 0;
@@ -50,7 +55,7 @@ pub fn compare_list<A: Answers + Drop>(list: &[u8], room: usize, mut ours: A) ->
     while let Some((record, after)) = rest.split_at_checked(A::size_of(rest)) {
         if let Err(difference) = ours.compare(record) {
             if differ < A::SHOWN {
-                let _ = writeln!(Stdout, "record {compared}{difference}");
+                let _ = write!(Stdout, "record {compared}{difference}");
             }
             differ += 1;
         }
@@ -83,6 +88,8 @@ mod tests {
         type Difference = u8;
 
         const SHOWN: usize = 0;
+
+        ghost least = { 1 };
 
         fn size_of(_list: &[u8]) -> usize {
             1

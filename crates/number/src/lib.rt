@@ -6,7 +6,7 @@
 #![tactic(auto)]
 
 ghost use Rattle.std.specs.Prelude.{◌≡◌, cond};
-ghost use Rattle.std.specs.Float.Ieee.{is_nan};
+ghost use Rattle.std.specs.Float.Ieee.{is_nan, ne};
 ghost use Rattle.std.specs.Float.Ieee.Scale.{finite};
 ghost use Rattle.number.specs.InTurn.{in_turn};
 ghost use Rattle.number.specs.Moderate.{moderate};
@@ -55,8 +55,10 @@ pub fn is_moderate(x: f32) -> bool
 
 // Whether x is a NaN, by the library's test: only a NaN differs from itself. (A function of our own all the same, as
 // document 01 has it; C compares it by `probes`.)
+#[tactic(auto, using(binary32::proofs::Tests::nan_test))]
 pub fn is_nan(x: f32) -> bool
-    ensures { result ≡ is_nan x }
+    ensures value { result ≡ is_nan x }
+    ensures unequal { result ≡ ne x x }
 {
     x.is_nan()
 }

@@ -3,6 +3,7 @@ use crate::operate::{NoOperation, Operation};
 use bits::{bits_of, float_of};
 use lists::Answers;
 use std::{array, fmt};
+use streams::Word;
 use wire::read_u32;
 
 // The bytes of a record.
@@ -34,16 +35,22 @@ impl From<NoOperation> for Difference {
 impl fmt::Display for Difference {
     fn fmt<W: fmt::Write>(&self, f: &mut fmt::Formatter<W>) -> fmt::Result {
         match self {
-            Difference::Unknown(NoOperation(number)) => write!(f, ": {number:08x} is no operation"),
+            Difference::Unknown(NoOperation(number)) => {
+                writeln!(f, ": {} is no operation", Word(*number))
+            }
             Difference::Answer {
                 operation,
                 x,
                 y,
                 ours,
                 answer,
-            } => write!(
+            } => writeln!(
                 f,
-                ": {x:08x} {operation} {y:08x}: ours {ours:08x}, the definition's {answer:08x}"
+                ": {}{operation}{}: ours {}, the definition's {}",
+                Word(*x),
+                Word(*y),
+                Word(*ours),
+                Word(*answer)
             ),
         }
     }
@@ -53,6 +60,8 @@ impl Answers for Processor {
     type Difference = Difference;
 
     const SHOWN: usize = 4;
+
+    ghost least = { 16 };
 
     fn size_of(_list: &[u8]) -> usize {
         RECORD

@@ -33,13 +33,14 @@ impl TryFrom<u32> for Operation {
     }
 }
 
+// Its sign, with the spaces about it.
 impl fmt::Display for Operation {
     fn fmt<W: fmt::Write>(&self, f: &mut fmt::Formatter<W>) -> fmt::Result {
         f.write_str(match self {
-            Operation::Sum => "+",
-            Operation::Difference => "-",
-            Operation::Product => "*",
-            Operation::Quotient => "/",
+            Operation::Sum => " + ",
+            Operation::Difference => " - ",
+            Operation::Product => " * ",
+            Operation::Quotient => " / ",
         })
     }
 }

@@ -1,12 +1,11 @@
-// Our answers, kind by kind. One kind more is an arm of `number` here, in mixes.rt if it is about the quad, in
+// Our answers, kind by kind. One kind more is an arm of `answer` here, in mixes.rt if it is about the quad, in
 // frames.rt if it is about any frame, or in floors.rt if it is about thrust-floor by rows, and a line in list.rs of the
 // room of compare/rooms that is about it.
 ghost use Rattle.std.specs.Prelude.{◌+◌, ◌≤◌, length};
 
-use crate::{floors, frames, mixes};
+use crate::mixes;
 use bits::bits_of;
 use quad::QuadMixer;
-use std::array;
 use words::WORDS;
 
 // The most words that the inputs of a kind take: a wrench, a floor and 64 rows.
@@ -20,14 +19,8 @@ pub(crate) type Words = [u32; WORDS];
 // has the head. A head is 0xKKAA_IIII: the kind, how many words the answers take and how many the inputs take; it is
 // matched as the list has it, since a name for each would be a second list. `float_of` has read the inputs and
 // `bits_of` writes the answers, so kind 4, the round trip from bits to bits, has no more to do.
+// (Each file's last arm asks the next: answers of 512 bytes that are handed through an `or_else` are copied each time.)
 pub(crate) fn answer(head: u32, x: &[f32; INPUTS], state: &mut QuadMixer) -> Option<Words> {
-    number(head, x)
-        .or_else(|| frames::answer(head, x))
-        .or_else(|| floors::answer(head, x))
-        .or_else(|| mixes::answer(head, x, state))
-}
-
-fn number(head: u32, x: &[f32; INPUTS]) -> Option<Words> {
     match head {
         0x0101_0001 => one(number::sanitise(x[0])),
         0x0201_0001 => one(number::limit(x[0])),
@@ -41,13 +34,17 @@ fn number(head: u32, x: &[f32; INPUTS]) -> Option<Words> {
         0x0601_0009 => one(scale(x, 4)),
         0x0701_0009 => one(solve::det3(matrix(x))),
         0x0804_000c => Some(solution(x)),
-        _ => None,
+        _ => mixes::answer(head, x, state),
     }
 }
 
 // Floats as an answer: their bits, and zeros after the last. There is room for 128.
 pub(crate) fn words_of(floats: &[f32]) -> Words {
-    array::from_fn(|i| floats.get(i).map_or(0, |x| bits_of(*x)))
+    let mut words = [0; WORDS];
+    for (word, x) in words.iter_mut().zip(floats) {
+        *word = bits_of(*x);
+    }
+    words
 }
 
 fn one(x: f32) -> Option<Words> {

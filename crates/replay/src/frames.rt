@@ -2,6 +2,7 @@
 ghost use Rattle.std.specs.Prelude.{◌+◌, ◌*◌, ◌≤◌};
 
 use crate::answers::{INPUTS, Words, words_of};
+use crate::floors;
 use frame::MixerN;
 use multi::Wrench;
 use std::array;
@@ -27,7 +28,7 @@ pub(crate) fn answer(head: u32, x: &[f32; INPUTS]) -> Option<Words> {
         0x1e40_0104 => lent(x, 64),
         0x1f06_0004 => Some(words_of(&multi::mix_hex_x(wrench(x)))),
         0x2008_0004 => Some(words_of(&multi::mix_octo_coax(wrench(x)))),
-        _ => None,
+        _ => floors::answer(head, x),
     }
 }
 

@@ -5,9 +5,10 @@ use crate::answers::{INPUTS, Words, answer};
 use bits::float_of;
 use lists::Answers;
 use quad::QuadMixer;
-use std::{array, fmt};
+use std::fmt;
+use streams::Word;
 use wire::read_u32;
-use words::same;
+use words::{WORDS, same};
 
 // A record's head: 0xKKAA_IIII.
 #[derive(Clone, Copy)]
@@ -26,6 +27,20 @@ impl Head {
         ensures { result < 256 }
     {
         (self.0 / 65536 % 256) as usize
+    }
+
+    // Where the answers begin in the record.
+    fn answers_at(self) -> usize
+        ensures { (4 ≤ result) × (result < 1048576) }
+    {
+        4 + 4 * self.inputs()
+    }
+
+    // How many bytes the record has.
+    fn size(self) -> usize
+        ensures { (4 ≤ result) × (result < 2097152) }
+    {
+        self.answers_at() + 4 * self.answers()
     }
 }
 
@@ -57,23 +72,35 @@ pub(crate) enum Difference {
 impl fmt::Display for Difference {
     fn fmt<W: fmt::Write>(&self, f: &mut fmt::Formatter<W>) -> fmt::Result {
         match self {
-            Difference::NoSuchKind(Head(head)) => write!(f, ", head {head:08x}: no such kind"),
+            Difference::NoSuchKind(head) => {
+                write!(f, ", head")?;
+                show(f, 1, &[head.0])?;
+                writeln!(f, ": no such kind")
+            }
             Difference::Answer { head, ours, rust } => {
-                write!(f, ", head {:08x}: ours", head.0)?;
+                write!(f, ", head")?;
+                show(f, 1, &[head.0])?;
+                write!(f, ": ours")?;
                 show(f, head.answers(), ours)?;
                 write!(f, ", Rust")?;
-                show(f, head.answers(), rust)
+                show(f, head.answers(), rust)?;
+                writeln!(f)
             }
         }
     }
 }
 
 // The first of the words, as many as the count says.
-fn show<W: fmt::Write>(f: &mut fmt::Formatter<W>, count: usize, words: &Words) -> fmt::Result {
+fn show<W: fmt::Write>(f: &mut fmt::Formatter<W>, count: usize, words: &[u32]) -> fmt::Result {
     for word in words.iter().take(count) {
-        write!(f, " {word:08x}")?;
+        write!(f, " {}", Word(*word))?;
     }
     Ok(())
+}
+
+// The words of a record from a place on, each as its bytes.
+fn words_from(record: &[u8], at: usize) -> &[[u8; 4]] {
+    record.get(at..).unwrap_or(&[]).as_chunks().0
 }
 
 impl Answers for Replay {
@@ -81,17 +108,24 @@ impl Answers for Replay {
 
     const SHOWN: usize = 4;
 
+    ghost least = { 4 };
+
     fn size_of(list: &[u8]) -> usize {
-        let head = Head(read_u32(list, 0));
-        4 + 4 * (head.inputs() + head.answers())
+        Head(read_u32(list, 0)).size()
     }
 
-    // No kind looks past its own inputs. Past a record's end its words are 0, as ours are after the last.
+    // No kind looks past its own inputs. Past a record's end its words are 0, as ours are after the last. (Only the
+    // words that are there are read: most records have a few, and the room is for hundreds.)
     fn compare(&mut self, record: &[u8]) -> Result<(), Difference> {
-        let word = |i: usize| read_u32(record, 4 * i);
-        let head = Head(word(0));
-        let x: [f32; INPUTS] = array::from_fn(|i| float_of(word(1 + i)));
-        let rust: Words = array::from_fn(|i| word(1 + head.inputs() + i));
+        let head = Head(read_u32(record, 0));
+        let mut x = [0.0; INPUTS];
+        for (x, word) in x.iter_mut().zip(words_from(record, 4)) {
+            *x = float_of(u32::from_le_bytes(*word));
+        }
+        let mut rust = [0; WORDS];
+        for (answer, word) in rust.iter_mut().zip(words_from(record, head.answers_at())) {
+            *answer = u32::from_le_bytes(*word);
+        }
         match answer(head.0, &x, &mut self.state) {
             None => Err(Difference::NoSuchKind(head)),
             Some(ours) if same(&ours, &rust) => Ok(()),

@@ -1,6 +1,7 @@
 // Our answers about the quad. A mix acts on the state that the record before it left, and its answers are what the
 // readers say of the new state.
 use crate::answers::{INPUTS, Words, words_of};
+use crate::frames;
 use quad::{QuadMixer, motors_to_torque_signs};
 
 pub(crate) fn answer(head: u32, x: &[f32; INPUTS], state: &mut QuadMixer) -> Option<Words> {
@@ -20,7 +21,7 @@ pub(crate) fn answer(head: u32, x: &[f32; INPUTS], state: &mut QuadMixer) -> Opt
         0x1608_0005 => state.mix_rotor_out(usize::MAX, torque(x), x[3], x[4]),
         // The state is not asked and stays.
         0x1703_0004 => return Some(words_of(&motors_to_torque_signs(motors(x)))),
-        _ => return None,
+        _ => return frames::answer(head, x),
     };
     Some(read(*state))
 }

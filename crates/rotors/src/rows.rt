@@ -22,3 +22,14 @@ pub fn rows_of(run: &[f32]) -> &[[f32; 4]]
 {
     run.as_chunks().0
 }
+
+// The row of rotor i in such a run. Past the last it is a row of +0, which asks nothing of a motor.
+pub fn row_at(run: &[f32], i: usize) -> [f32; 4]
+    ensures { result ≡ row_at run.now i }
+{
+    if i < run.len() / 4 {
+        let at = 4 * i;
+        return [run[at], run[at + 1], run[at + 2], run[at + 3]];
+    }
+    [0.0; 4]
+}

@@ -151,7 +151,7 @@ pub(crate) struct Difference;
 
 impl fmt::Display for Difference {
     fn fmt<W: fmt::Write>(&self, f: &mut fmt::Formatter<W>) -> fmt::Result {
-        f.write_str(" differs")
+        f.write_str(" differs\n")
     }
 }
 
@@ -160,6 +160,8 @@ impl Answers for Sheets {
 
     // All.
     const SHOWN: usize = usize::MAX;
+
+    ghost least = { 96 };
 
     fn size_of(list: &[u8]) -> usize {
         Record(list).size()

@@ -4,8 +4,8 @@
 
 #![tactic(auto)]
 
-ghost use Rattle.std.specs.Prelude.{◌≡◌, ◌<◌};
-ghost use Rattle.std.specs.Float.Ieee.{lt};
+ghost use Rattle.std.specs.Prelude.{◌≡◌, ◌<◌, ◌&&◌};
+ghost use Rattle.std.specs.Float.Ieee.{lt, neg};
 ghost use Rattle.binary32.specs.Arithmetic.{small, absolute};
 ghost use Rattle.solve.specs.Solve.{element, determinant, singular, replaced, cramer, solution};
 
@@ -21,9 +21,10 @@ pub fn det3(a: [[f32; 3]; 3]) -> f32
         + b[2] * (c[0] * d[1] - c[1] * d[0])
 }
 
-// |x| < SMALL
+// |x| < SMALL, which is that x lies between -SMALL and SMALL
 fn is_small(x: f32) -> bool
-    ensures { result ≡ lt (absolute x) small }
+    ensures size { result ≡ lt (absolute x) small }
+    ensures between { result ≡ lt x small && lt (neg small) x }
 {
     x.abs() < SMALL
 }

@@ -1,6 +1,6 @@
 // Standard input and output, as every program here has them: over the kit's `io`, whose only axioms are the C library's
 // two calls. (The standard library's printing asks for the system's error number besides, and begins again where a
-// signal cut it short.) What cannot be written is given up, line by line, and a program goes on.
+// signal cut it short.) What cannot be written is left out, piece by piece, and a program goes on.
 
 #![tactic(auto)]
 
@@ -23,17 +23,27 @@ pub fn read<const ROOM: usize>(room: &mut [u8; ROOM]) -> &[u8]
     &room[..count]
 }
 
-// Standard output, for text: one `write!` or `writeln!` a line.
+// Standard output, for text: one `write!` or `writeln!` a line, of which each piece is a write of its own. After one
+// that fails the next is tried.
 #[derive(Clone, Copy)]
 pub struct Stdout;
 
 // No clause says what is written: `io::write_all` promises nothing, since nothing is assumed of the system's call.
 impl fmt::Write for Stdout {
     fn write_str(&mut self, text: &str) -> fmt::Result {
-        if io::write_all(STDOUT_FILENO, text.as_bytes()) {
-            Ok(())
-        } else {
-            Err(fmt::Error)
-        }
+        io::write_all(STDOUT_FILENO, text.as_bytes());
+        Ok(())
+    }
+}
+
+// A word as eight hex digits: one piece, where `{:08x}` would be two, the zeros in front and the digits.
+#[derive(Clone, Copy)]
+pub struct Word(pub u32);
+
+impl fmt::Display for Word {
+    fn fmt<W: fmt::Write>(&self, f: &mut fmt::Formatter<W>) -> fmt::Result {
+        let mut digits = [0; 16];
+        let count = io::hex(u64::from(self.0), 8, &mut digits);
+        f.write_str(str::from_utf8(&digits[..count]).unwrap_or(""))
     }
 }

@@ -16,10 +16,14 @@ pub fn byte(s: &[u8], at: usize) -> u8
     if at < s.len() { s[at] } else { 0 }
 }
 
-// The N bytes from a place on. A place past the largest usize is past the end too.
+// The N bytes from a place on. A place past the largest usize is past the end too. (Where all of them are there, they
+// are taken at once: byte by byte, a sheet is run more slowly.)
 fn bytes<const N: usize>(s: &[u8], at: usize) -> [u8; N]
     ensures { EachIndex result (λ k. slice_index result k ≡ slice_index s.now (at + k)) }
 {
+    if let Some(bytes) = s.get(at..).unwrap_or(&[]).first_chunk() {
+        return *bytes;
+    }
     array::from_fn(|k| byte(s, at.saturating_add(k)))
 }
 

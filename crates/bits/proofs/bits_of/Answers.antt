@@ -7,7 +7,7 @@ use Rattle.bits.proofs.bits_of.Goals as goal
 
 pub returns-then-is_nan : goal.returns-then-is_nan
 unfolding to_bits
-returns-then-is_nan c = rw (nan_only c.args.x (sym c.is_nan.ensures ∙ c.if-is_nan.true))
+returns-then-is_nan c = rw (nan_only c.args.x (sym c.is_nan.ensures.value ∙ c.if-is_nan.true))
 
 pub float_to_bits-result : goal.float_to_bits-result
-float_to_bits-result c = rw (sym c.is_nan.ensures ∙ c.if-is_nan.false) tt
+float_to_bits-result c = rw (sym c.is_nan.ensures.value ∙ c.if-is_nan.false) tt

@@ -9,10 +9,10 @@ use Rattle.number.proofs.is_finite.Goals as goal
 
 pub returns-then-is_nan : goal.returns-then-is_nan
 returns-then-is_nan c =
-    sym (nan_not_finite c.args.x (sym c.is_nan.ensures ∙ c.if-is_nan.true))
+    sym (nan_not_finite c.args.x (sym c.is_nan.ensures.value ∙ c.if-is_nan.true))
 
 pub float_to_bits-result : goal.float_to_bits-result
-float_to_bits-result c = rw (sym c.is_nan.ensures ∙ c.if-is_nan.false) tt
+float_to_bits-result c = rw (sym c.is_nan.ensures.value ∙ c.if-is_nan.false) tt
 
 pub returns : goal.returns
 unfolding exponent_field exponent_width trailing_width all_ones

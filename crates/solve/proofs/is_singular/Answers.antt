@@ -9,4 +9,4 @@ returns-then-not-is_finite c = simp (← c.is_finite.ensures, c.if-not-is_finite
 
 pub returns-else-not-is_finite : goal.returns-else-not-is_finite
 unfolding singular
-returns-else-not-is_finite c = simp (← c.is_finite.ensures, c.if-not-is_finite.false, c.is_small.ensures)
+returns-else-not-is_finite c = simp (← c.is_finite.ensures, c.if-not-is_finite.false, c.is_small.ensures.size)

@@ -1,6 +1,5 @@
 -- `entries::choice::choose` meets its contract: in each arm the kind and the rotor byte are known well enough for the
 -- tests to compute. Assumes nothing.
-use mathlib.Core.Path.{refl}
 use native.Mathlib.Omega.{arith}
 use borrow.Author.Tests.{lt-ltb, le-ltb}
 use Rattle.entries.specs.declared.refusal.Refusal.TheVariants.{BadKind, BadRotor}
@@ -9,34 +8,12 @@ use Rattle.entries.proofs.Chosen.{case_chosen, refusal_chosen}
 use Rattle.entries.proofs.Numbers.{kind_refused, rotor_refused, none_refused, rotor_passed}
 use Rattle.entries.proofs.choice.choose.Goals as goal
 
-pub returns-in-0-eq0 : goal.returns-in-0-eq0
-unfolding case_of
-returns-in-0-eq0 c = rw (c.in-0-eq0.is-0, c.in-0-eq0.is-1) (case_chosen (rotor_passed _ (omega arith)) refl)
+pub returns-in-0-to-3-eq0 : goal.returns-in-0-to-3-eq0
+returns-in-0-to-3-eq0 c =
+    rw c.in-0-to-3-eq0.is-1 (case_chosen (rotor_passed _ (omega arith)) (c.unlost.ensures (omega arith)))
 
-pub returns-in-1-eq0 : goal.returns-in-1-eq0
-unfolding case_of
-returns-in-1-eq0 c = rw (c.in-1-eq0.is-0, c.in-1-eq0.is-1) (case_chosen (rotor_passed _ (omega arith)) refl)
-
-pub returns-in-2-eq0 : goal.returns-in-2-eq0
-unfolding case_of
-returns-in-2-eq0 c = rw (c.in-2-eq0.is-0, c.in-2-eq0.is-1) (case_chosen (rotor_passed _ (omega arith)) refl)
-
-pub returns-in-3-eq0 : goal.returns-in-3-eq0
-unfolding case_of
-returns-in-3-eq0 c = rw (c.in-3-eq0.is-0, c.in-3-eq0.is-1) (case_chosen (rotor_passed _ (omega arith)) refl)
-
--- this arm once for each of the kinds 0 to 3
 pub returns-in-0-to-3-1-to-255 : goal.returns-in-0-to-3-1-to-255
 returns-in-0-to-3-1-to-255 c = refusal_chosen BadRotor (rotor_refused c.args.kind _ (omega arith) (omega arith))
-
-pub returns-in-0-to-3-1-to-255-2 : goal.returns-in-0-to-3-1-to-255-2
-returns-in-0-to-3-1-to-255-2 c = refusal_chosen BadRotor (rotor_refused c.args.kind _ (omega arith) (omega arith))
-
-pub returns-in-0-to-3-1-to-255-3 : goal.returns-in-0-to-3-1-to-255-3
-returns-in-0-to-3-1-to-255-3 c = refusal_chosen BadRotor (rotor_refused c.args.kind _ (omega arith) (omega arith))
-
-pub returns-in-0-to-3-1-to-255-4 : goal.returns-in-0-to-3-1-to-255-4
-returns-in-0-to-3-1-to-255-4 c = refusal_chosen BadRotor (rotor_refused c.args.kind _ (omega arith) (omega arith))
 
 pub returns-in-4-0-to-3 : goal.returns-in-4-0-to-3
 unfolding case_of failed_of
