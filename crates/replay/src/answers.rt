@@ -19,9 +19,10 @@ pub(crate) type Words = [u32; WORDS];
 // has the head. A head is 0xKKAA_IIII: the kind, how many words the answers take and how many the inputs take; it is
 // matched as the list has it, since a name for each would be a second list. `float_of` has read the inputs and
 // `bits_of` writes the answers, so kind 4, the round trip from bits to bits, has no more to do.
-// (Each file's last arm asks the next: answers of 512 bytes that are handed through an `or_else` are copied each time.)
+// (Each file has one place for the words of its arms, and its last arm asks the next file: a function pays at its entry
+// for each place of 512 bytes.)
 pub(crate) fn answer(head: u32, x: &[f32; INPUTS], state: &mut QuadMixer) -> Option<Words> {
-    match head {
+    Some(match head {
         0x0101_0001 => one(number::sanitise(x[0])),
         0x0201_0001 => one(number::limit(x[0])),
         0x0301_0001 => one(number::clamp01(x[0])),
@@ -33,9 +34,9 @@ pub(crate) fn answer(head: u32, x: &[f32; INPUTS], state: &mut QuadMixer) -> Opt
         0x0601_0007 => one(scale(x, 3)),
         0x0601_0009 => one(scale(x, 4)),
         0x0701_0009 => one(solve::det3(matrix(x))),
-        0x0804_000c => Some(solution(x)),
-        _ => mixes::answer(head, x, state),
-    }
+        0x0804_000c => solution(x),
+        _ => return mixes::answer(head, x, state),
+    })
 }
 
 // Floats as an answer: their bits, and zeros after the last. There is room for 128.
@@ -47,8 +48,8 @@ pub(crate) fn words_of(floats: &[f32]) -> Words {
     words
 }
 
-fn one(x: f32) -> Option<Words> {
-    Some(words_of(&[x]))
+fn one(x: f32) -> Words {
+    words_of(&[x])
 }
 
 // The inputs are the floor, the bases and the deltas.

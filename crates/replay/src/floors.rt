@@ -9,18 +9,18 @@ use thrust_floor::MotorsAndScale;
 use words::WORDS;
 
 pub(crate) fn answer(head: u32, x: &[f32; INPUTS]) -> Option<Words> {
-    match head {
-        0x2101_0005 => lent(x, 0),
-        0x2102_0009 => lent(x, 1),
-        0x2105_0015 => lent(x, 4),
-        0x2107_001d => lent(x, 6),
-        0x2109_0025 => lent(x, 8),
-        0x2140_0101 => lent(x, 63),
-        0x2141_0105 => lent(x, 64),
-        0x2207_0005 => Some(scaled(mix_hex_x(wrench(x), x[4]))),
-        0x2309_0005 => Some(scaled(mix_octo_coax(wrench(x), x[4]))),
-        _ => None,
-    }
+    Some(match head {
+        0x2101_0005 => return lent(x, 0),
+        0x2102_0009 => return lent(x, 1),
+        0x2105_0015 => return lent(x, 4),
+        0x2107_001d => return lent(x, 6),
+        0x2109_0025 => return lent(x, 8),
+        0x2140_0101 => return lent(x, 63),
+        0x2141_0105 => return lent(x, 64),
+        0x2207_0005 => scaled(mix_hex_x(wrench(x), x[4])),
+        0x2309_0005 => scaled(mix_octo_coax(wrench(x), x[4])),
+        _ => return None,
+    })
 }
 
 // The inputs are the wrench, the floor and the rows. The motors are written to the first of the floats that are lent,

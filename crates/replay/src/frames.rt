@@ -9,27 +9,27 @@ use std::array;
 use words::WORDS;
 
 pub(crate) fn answer(head: u32, x: &[f32; INPUTS]) -> Option<Words> {
-    match head {
-        0x1809_0024 => Some(mix_by(x, 0)),
-        0x1909_0024 => Some(mix_by(x, 4)),
-        0x1a09_0024 => Some(mix_by(x, 8)),
-        0x1b09_0024 => Some(mix_by(x, 255)),
-        0x1c09_0004 => Some(mix(MixerN::quad_x(), [x[0], x[1], x[2]], x[3])),
-        0x1d04_0028 => Some(achieved_wrench(x)),
-        0x1e00_0004 => lent(x, 0),
-        0x1e01_0008 => lent(x, 1),
-        0x1e02_000c => lent(x, 2),
-        0x1e03_0010 => lent(x, 3),
-        0x1e04_0014 => lent(x, 4),
-        0x1e06_001c => lent(x, 6),
-        0x1e08_0024 => lent(x, 8),
-        0x1e10_0044 => lent(x, 16),
-        0x1e3f_0100 => lent(x, 63),
-        0x1e40_0104 => lent(x, 64),
-        0x1f06_0004 => Some(words_of(&multi::mix_hex_x(wrench(x)))),
-        0x2008_0004 => Some(words_of(&multi::mix_octo_coax(wrench(x)))),
-        _ => floors::answer(head, x),
-    }
+    Some(match head {
+        0x1809_0024 => mix_by(x, 0),
+        0x1909_0024 => mix_by(x, 4),
+        0x1a09_0024 => mix_by(x, 8),
+        0x1b09_0024 => mix_by(x, 255),
+        0x1c09_0004 => mix(MixerN::quad_x(), [x[0], x[1], x[2]], x[3]),
+        0x1d04_0028 => achieved_wrench(x),
+        0x1e00_0004 => return lent(x, 0),
+        0x1e01_0008 => return lent(x, 1),
+        0x1e02_000c => return lent(x, 2),
+        0x1e03_0010 => return lent(x, 3),
+        0x1e04_0014 => return lent(x, 4),
+        0x1e06_001c => return lent(x, 6),
+        0x1e08_0024 => return lent(x, 8),
+        0x1e10_0044 => return lent(x, 16),
+        0x1e3f_0100 => return lent(x, 63),
+        0x1e40_0104 => return lent(x, 64),
+        0x1f06_0004 => words_of(&multi::mix_hex_x(wrench(x))),
+        0x2008_0004 => words_of(&multi::mix_octo_coax(wrench(x))),
+        _ => return floors::answer(head, x),
+    })
 }
 
 // The first 32 inputs, as a matrix.

@@ -44,16 +44,19 @@ impl Head {
     }
 }
 
-// Our answers, and the quad's state that they go on from: a new one at the start, and then as the last record left it.
+// Our answers, the quad's state that they go on from, a new one at the start and then as the last record left it, and
+// the room for a record's inputs.
 #[derive(Clone, Copy)]
 pub(crate) struct Replay {
     state: QuadMixer,
+    inputs: [f32; INPUTS],
 }
 
 impl Replay {
     pub(crate) fn new() -> Self {
         Replay {
             state: QuadMixer::new(),
+            inputs: [0.0; INPUTS],
         }
     }
 }
@@ -114,22 +117,24 @@ impl Answers for Replay {
         Head(read_u32(list, 0)).size()
     }
 
-    // No kind looks past its own inputs. Past a record's end its words are 0, as ours are after the last. (Only the
-    // words that are there are read: most records have a few, and the room is for hundreds.)
+    // No kind looks past its own inputs, so those of earlier records may stay behind them. Past a record's end its
+    // words are 0, as ours are after the last. (Only the words that are there are read: most records have a few, and
+    // there is room for hundreds.)
     fn compare(&mut self, record: &[u8]) -> Result<(), Difference> {
         let head = Head(read_u32(record, 0));
-        let mut x = [0.0; INPUTS];
-        for (x, word) in x.iter_mut().zip(words_from(record, 4)) {
+        for (x, word) in self.inputs.iter_mut().zip(words_from(record, 4)) {
             *x = float_of(u32::from_le_bytes(*word));
         }
         let mut rust = [0; WORDS];
         for (answer, word) in rust.iter_mut().zip(words_from(record, head.answers_at())) {
             *answer = u32::from_le_bytes(*word);
         }
-        match answer(head.0, &x, &mut self.state) {
-            None => Err(Difference::NoSuchKind(head)),
-            Some(ours) if same(&ours, &rust) => Ok(()),
-            Some(ours) => Err(Difference::Answer { head, ours, rust }),
+        let Some(ours) = answer(head.0, &self.inputs, &mut self.state) else {
+            return Err(Difference::NoSuchKind(head));
+        };
+        if same(&ours, &rust) {
+            return Ok(());
         }
+        Err(Difference::Answer { head, ours, rust })
     }
 }
