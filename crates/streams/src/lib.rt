@@ -4,9 +4,11 @@
 
 #![tactic(auto)]
 
-ghost use Rattle.std.specs.Prelude.{◌≤◌, length};
+ghost use Rattle.std.specs.Prelude.{◌≤◌, length, Some};
+ghost use Rattle.text.specs.Digits.{hex_of};
 
 use std::fmt;
+use text::write_hex;
 
 // The number of standard input.
 const STDIN_FILENO: i32 = 0;
@@ -41,9 +43,14 @@ impl fmt::Write for Stdout {
 pub struct Word(pub u32);
 
 impl fmt::Display for Word {
+    ghost output = { λ word. Some (hex_of word.0) };
+
     fn fmt<W: fmt::Write>(&self, f: &mut fmt::Formatter<W>) -> fmt::Result {
-        let mut digits = [0; 16];
-        let count = io::hex(u64::from(self.0), 8, &mut digits);
-        f.write_str(str::from_utf8(&digits[..count]).unwrap_or(""))
+        let mut digits = [0; 8];
+        write_hex(&mut digits, 0, self.0);
+        match str::from_utf8(&digits) {
+            Ok(text) => f.write_str(text),
+            Err(_) => Err(fmt::Error),
+        }
     }
 }
